@@ -1,0 +1,3 @@
+pub mod Receive
+pub mod Windows
+pub mod Claims

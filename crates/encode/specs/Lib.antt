@@ -1,0 +1,3 @@
+pub mod Reception
+pub mod Parts
+pub mod Tallies

@@ -1,0 +1,11 @@
+pub mod Accepted
+pub mod Driving
+pub mod Finishing
+pub mod Highest
+pub mod Lenders
+pub mod Lending
+pub mod Limits
+pub mod Placing
+pub mod RunLaws
+pub mod Views
+pub mod Bottoms

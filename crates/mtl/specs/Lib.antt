@@ -1,0 +1,12 @@
+pub mod Shapes
+pub mod Operators
+pub mod Rows
+pub mod Lists
+pub mod Formula
+pub mod Runs
+pub mod Tables
+pub mod Sizes
+pub mod Statements
+pub mod Fields
+pub mod Cases
+pub mod Layout

@@ -1,0 +1,5 @@
+pub mod Judging
+pub mod Over
+pub mod Reading
+pub mod Writing
+pub mod Worked
