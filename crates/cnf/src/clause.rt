@@ -14,7 +14,10 @@ impl Literal {
     pub fn opposite(self) -> Literal
         ensures { λ r. ⌜ r ≡ opposite self ⌝ }
     {
-        Literal { variable: self.variable, positive: !self.positive }
+        Literal {
+            variable: self.variable,
+            positive: !self.positive,
+        }
     }
 
     // Whether the variable lies between 1 and `highest`.

@@ -28,7 +28,12 @@ impl Refusal {
 }
 
 // Asks what every sink asks of a clause; the first no is the answer.
-pub fn examine(longest: usize, highest: u32, cells: usize, clause: &[Literal]) -> Result<(), Refusal>
+pub fn examine(
+    longest: usize,
+    highest: u32,
+    cells: usize,
+    clause: &[Literal],
+) -> Result<(), Refusal>
     ensures { λ r. ⌜ r ≡ verdict longest highest cells (now (clause .entry)) ⌝ }
 {
     let n = clause.len();

@@ -74,7 +74,10 @@ pub impl<S: Sink> Sink for Switch<S> as SwitchSink {
         let highest = (*self).highest_variable();
         let cells = (*self).free_cells();
         examine(longest, highest, cells, clause)?;
-        let first = Literal { variable: self.variable, positive: false };
+        let first = Literal {
+            variable: self.variable,
+            positive: false,
+        };
         let buffer = prefixed(first, clause);
         let n = clause.len();
         self.below.take(&buffer[0..n + 1])
@@ -82,7 +85,11 @@ pub impl<S: Sink> Sink for Switch<S> as SwitchSink {
 }
 
 // Hands a clause through a switch to a sink that the caller keeps.
-pub fn take_switched<S: Sink>(sink: &mut S, variable: u32, clause: &[Literal]) -> Result<(), Refusal>
+pub fn take_switched<S: Sink>(
+    sink: &mut S,
+    variable: u32,
+    clause: &[Literal],
+) -> Result<(), Refusal>
     ensures answer { λ r. ⌜ r ≡ answer (switch-model (S·Sink .model)) (record { below = now (sink .entry); variable = variable }) (now (clause .entry)) ⌝ }
     ensures refused { λ r. ⌜ (isOk r ≡ false → now (sink .exit) ≡ now (sink .entry)) ⌝ }
     ensures taken { λ r. ⌜ (isOk r ≡ true → Taken (switch-model (S·Sink .model)) (now (clause .entry)) (record { below = now (sink .entry); variable = variable }) (record { below = now (sink .exit); variable = variable })) ⌝ }

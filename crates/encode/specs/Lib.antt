@@ -1,3 +1,2 @@
 pub mod Reception
 pub mod Parts
-pub mod Tallies

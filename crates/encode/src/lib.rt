@@ -12,7 +12,6 @@ mod part;
 mod place;
 mod rows;
 mod step;
-pub mod tally;
 
 use cnf::clause::Literal;
 use emit::write_claim;

@@ -108,10 +108,9 @@ written-is m α k k′ cs rs s p = sym (ran-lists m α (p .ran) good-fresh)
 pub possible-is : {S : Type 0} (m : Model S) (k k′ : S) (cs : List Call) (rs : List Answer) (s : State) → Promise m k cs rs k′ s → s .begun ≡ true → ((α : Assignment) × (sat-all α (written fresh cs rs) ≡ true)) ↔ Possible s
 possible-is m k k′ cs rs s p b =
     let g = ran-good m (p .ran) good-fresh in
-    let is = satisfiable (s .bound) (s .rows) (s .kept) (g .lawful) (g .asked) in
-    (
+    let is = satisfiable (s .bound) (s .rows) (s .kept) (g .lawful) (g .asked) in (
       λ (α, e). is .0 (α, sym (ap (sat-all α) (begun-is s b)) ∙ sym (written-is m α k k′ cs rs s p) ∙ e),
-      λ run. let (α, e) = is .1 run in (α, written-is m α k k′ cs rs s p ∙ ap (sat-all α) (begun-is s b) ∙ e)
+      λ run. let (α, e) = is .1 run in (α, written-is m α k k′ cs rs s p ∙ ap (sat-all α) (begun-is s b) ∙ e),
     )
 
 -- what the caller of a writer learns, whose area after is the writer's if the names are one
@@ -136,7 +135,7 @@ module _ (before : List ℕ) (xs ys : List Exchange) (w v : Writer) (z : State) 
         variables = top;
         exact = λ b. (
           λ (α, e). is b .0 (α, sym (ap (all-true α) (stand .reads)) ∙ e),
-          λ run. let (α, e) = is b .1 run in (α, ap (all-true α) (stand .reads) ∙ e)
+          λ run. let (α, e) = is b .1 run in (α, ap (all-true α) (stand .reads) ∙ e),
         );
       }
 
@@ -177,6 +176,6 @@ judged-rules area xs ys j k z r new d told =
       first = told ∙ judged-first (written fresh (calls-of xs) (d .answers)) area j k new (p .taken .steps);
       exact = λ b. (
         λ e. is .0 (eq-eqb (k .fault) 0 (sym told ∙ e)) .1 b,
-        λ shown. told ∙ eqb-true (k .fault) 0 (is .1 (in-first, λ _. shown))
+        λ shown. told ∙ eqb-true (k .fault) 0 (is .1 (in-first, λ _. shown)),
       );
     }

@@ -76,15 +76,16 @@ module _ {S : Type 0} (m : Model S) (j : Job S) (xs : List Exchange) where
     one-more a k′ step =
         let c = getD xs i d .call in
         let e : getD ys i d .call ≡ getD xs i d .call = ap (λ x. x .call) same-call in
-        let moved = subst (λ c. Move m (k .sink) (known k) c a (k′ .sink) (known k′)) e (move-of m k k′ (getD ys i d .call) a step) in
-        (old .0 ++ (a ∷ []),
-         length-push (old .0) a ∙ ap (λ n. n + 1) (old .1),
-         ap (λ zs. set zs i (record { call = getD ys i d .call; answer = Some a })) here
-           ∙ set-at (answered (calls-of (take i xs)) (old .0)) (getD xs i d) (drop (i + 1) xs) (record { call = getD ys i d .call; answer = Some a }) i front
-           ∙ ap (λ c. answered (calls-of (take i xs)) (old .0) ++ (record { call = c; answer = Some a } ∷ drop (i + 1) xs)) e
-           ∙ sym (append-assoc (answered (calls-of (take i xs)) (old .0)) (record { call = getD xs i d .call; answer = Some a } ∷ []) (drop (i + 1) xs))
-           ∙ ap (λ zs. zs ++ drop (i + 1) xs) (sym (ap (λ cs. answered cs (old .0 ++ (a ∷ []))) calls-more ∙ answered-push (calls-of (take i xs)) (old .0) (getD xs i d .call) a calls-length)),
-         subst (λ cs. Ran m (j .sink) (known j) cs (old .0 ++ (a ∷ [])) (k′ .sink) (known k′)) (sym calls-more) (ran-push m (getD xs i d .call) a (old .3) moved))
+        let moved = subst (λ c. Move m (k .sink) (known k) c a (k′ .sink) (known k′)) e (move-of m k k′ (getD ys i d .call) a step) in (
+          old .0 ++ (a ∷ []),
+          length-push (old .0) a ∙ ap (λ n. n + 1) (old .1),
+          ap (λ zs. set zs i (record { call = getD ys i d .call; answer = Some a })) here
+              ∙ set-at (answered (calls-of (take i xs)) (old .0)) (getD xs i d) (drop (i + 1) xs) (record { call = getD ys i d .call; answer = Some a }) i front
+              ∙ ap (λ c. answered (calls-of (take i xs)) (old .0) ++ (record { call = c; answer = Some a } ∷ drop (i + 1) xs)) e
+              ∙ sym (append-assoc (answered (calls-of (take i xs)) (old .0)) (record { call = getD xs i d .call; answer = Some a } ∷ []) (drop (i + 1) xs))
+              ∙ ap (λ zs. zs ++ drop (i + 1) xs) (sym (ap (λ cs. answered cs (old .0 ++ (a ∷ []))) calls-more ∙ answered-push (calls-of (take i xs)) (old .0) (getD xs i d .call) a calls-length)),
+          subst (λ cs. Ran m (j .sink) (known j) cs (old .0 ++ (a ∷ [])) (k′ .sink) (known k′)) (sym calls-more) (ran-push m (getD xs i d .call) a (old .3) moved),
+        )
 
   pub all-done : (i : ℕ) (ys : List Exchange) (k : Job S) → length xs ≤ i → So-far m j xs i ys k → Performed m j xs ys k
   all-done i ys k h old = record {
@@ -99,6 +100,6 @@ drove m s j k xs ys e f p = record {
   answers = p .answers;
   told = p .told;
   promise = promised m s (k .sink) (calls-of xs) (p .answers) (known k)
-    (subst (λ u. Ran m u fresh (calls-of xs) (p .answers) (k .sink) (known k)) e
-    (subst (λ z. Ran m (j .sink) z (calls-of xs) (p .answers) (k .sink) (known k)) f (p .ran)));
+      (subst (λ u. Ran m u fresh (calls-of xs) (p .answers) (k .sink) (known k)) e
+      (subst (λ z. Ran m (j .sink) z (calls-of xs) (p .answers) (k .sink) (known k)) f (p .ran)));
 }

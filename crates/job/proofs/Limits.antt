@@ -15,8 +15,8 @@ use Rattle.cnf.specs.Clauses.{Clause, Clauses, within, in-range, all-in-range, 
 use Rattle.cnf.specs.Questions.{Question, first-no}
 use Rattle.cnf.specs.Sinks.{Model}
 use Rattle.mtl.specs.Statements.{Takes, none-empty}
-use Rattle.encode.specs.declared.tally.Tally.{Tally}
-use Rattle.encode.specs.Tallies.{Tally-of}
+use Rattle.job.specs.declared.cost.Cost.{Cost}
+use Rattle.job.specs.Costs.{Costs}
 use Rattle.job.specs.declared.refusal.Refusal.{Refusal}
 use Rattle.job.specs.Calls.{limits, sink-asks}
 use Rattle.job.specs.Feeding.{Fits}
@@ -71,13 +71,10 @@ ranged-more n m (c ∷ cs) h e =
 pub takes-more : (n m : ℕ) (cs : Clauses) → n ≤ m → Takes n cs → Takes m cs
 takes-more n m cs h t = record { ranged = ranged-more n m cs h (t .ranged); full = t .full }
 
--- the last questions, of a list with this tally
-module _ {S : Type 0} (m : Model S) (s : S) (cs : Clauses) (t : Tally) (v : ℕ) (counted : Tally-of cs t) (bound : m .cells s < 2 ^ 64) where
-  capped : leb (t .cells) (m .cells s) ≡ leb (cells-of cs) (m .cells s)
-  capped = let e = counted .cells in grind (arith, tells)
-
+-- the last questions, of a list of this cost
+module _ {S : Type 0} (m : Model S) (s : S) (cs : Clauses) (t : Cost) (v : ℕ) (counted : Costs cs t) where
   pub limits-are : {X : Type 0} (x : X) → first-no (limits (m .longest s) (m .highest s) (m .cells s) (t .longest) v (t .cells)) x ≡ first-no (sink-asks m s v cs) x
-  limits-are x = simp (capped, counted .longest)
+  limits-are x = simp (counted .cells, counted .longest)
 
   pub limits-fit : _≡_ {A = Result (Unit {0}) Refusal} (Ok tt) (first-no (limits (m .longest s) (m .highest s) (m .cells s) (t .longest) v (t .cells)) tt) → Takes v cs → Fits m cs s
   limits-fit e takes =

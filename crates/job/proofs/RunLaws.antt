@@ -198,9 +198,9 @@ shows-is : (s : State) (α : Assignment) → Good s → (sat-all α (lists s) �
 shows-is s α g = (
   λ e b. exact (s .bound) (s .rows) (s .kept) α (g .lawful) (g .asked) .0 (sym (ap (sat-all α) (begun-is s b)) ∙ e),
   λ h. ⊎-elim
-    (λ b. ap (sat-all α) (begun-is s b) ∙ exact (s .bound) (s .rows) (s .kept) α (g .lawful) (g .asked) .1 (h b))
-    (λ b. ap (sat-all α) (not-begun-is s b))
-    (cases-bool (s .begun))
+      (λ b. ap (sat-all α) (begun-is s b) ∙ exact (s .bound) (s .rows) (s .kept) α (g .lawful) (g .asked) .1 (h b))
+      (λ b. ap (sat-all α) (not-begun-is s b))
+      (cases-bool (s .begun)),
 )
 
 pub promised : {S : Type 0} (m : Model S) (k k′ : S) (cs : List Call) (rs : List Answer) (s : State) → Ran m k fresh cs rs k′ s → Promise m k cs rs k′ s
@@ -211,8 +211,8 @@ promised m k k′ cs rs s ran =
       ran = ran;
       inside = λ α w. (
         λ e. let parts = and-parts (m .inside k α) (sat-all (m .gives k α) (written fresh cs rs)) (sym (taken .meaning α w) ∙ e) in
-             (parts .0, shows (m .gives k α) .0 (ran-lists m (m .gives k α) ran good-fresh ∙ parts .1)),
-        λ (e, h). taken .meaning α w ∙ and-from (m .inside k α) _ e (sym (ran-lists m (m .gives k α) ran good-fresh) ∙ shows (m .gives k α) .1 h)
+            (parts .0, shows (m .gives k α) .0 (ran-lists m (m .gives k α) ran good-fresh ∙ parts .1)),
+        λ (e, h). taken .meaning α w ∙ and-from (m .inside k α) _ e (sym (ran-lists m (m .gives k α) ran good-fresh) ∙ shows (m .gives k α) .1 h),
       );
       taken = taken;
     }

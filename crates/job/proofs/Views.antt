@@ -26,8 +26,14 @@ pub record View {S′ S : Type 0} (m′ : Model S′) (m : Model S) (f : S′ �
 
 pub lent-view : {S : Type 0} (m : Model S) → View (lent-model m) m now
 lent-view m = record {
-  longest = λ _. refl; highest = λ _. refl; cells = λ _. refl; count = λ _. refl;
-  gives = λ _ _. refl; inside = λ _ _. refl; watched = λ _ _ w. w; watched-back = λ _ _ w. w;
+  longest = λ _. refl;
+  highest = λ _. refl;
+  cells = λ _. refl;
+  count = λ _. refl;
+  gives = λ _ _. refl;
+  inside = λ _ _. refl;
+  watched = λ _ _ w. w;
+  watched-back = λ _ _ w. w;
   takes = λ _ _ _ h. h .0;
 }
 
@@ -55,8 +61,8 @@ module _ {S′ S : Type 0} {m′ : Model S′} {m : Model S} {f : S′ → S} (v
   pub taken-view : (cs : Clauses) (s t : S′) → Taken-all m′ cs s t → Taken-all m cs (f s) (f t)
   taken-view cs s t a = record {
     meaning = λ α w.
-      sym (v .inside t α) ∙ a .meaning α (v .watched-back s α w) ∙ ap (λ b. b && sat-all (m′ .gives s α) cs) (v .inside s α)
-      ∙ ap (λ β. m .inside (f s) α && sat-all β cs) (v .gives s α);
+        sym (v .inside t α) ∙ a .meaning α (v .watched-back s α w) ∙ ap (λ b. b && sat-all (m′ .gives s α) cs) (v .inside s α)
+        ∙ ap (λ β. m .inside (f s) α && sat-all β cs) (v .gives s α);
     counted = sym (v .count t) ∙ a .counted ∙ ap (λ n. n + length cs) (v .count s);
     room = omega (arith, a .room, v .cells s, v .cells t);
     same-longest = sym (v .longest t) ∙ a .same-longest ∙ v .longest s;

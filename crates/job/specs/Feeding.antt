@@ -9,7 +9,6 @@ use Rattle.cnf.specs.Clauses.{Assignment, Clause, Clauses, sat, sat-all, cells-
 use Rattle.cnf.specs.Sinks.{Model}
 use Rattle.mtl.specs.Statements.{none-empty, Takes}
 use Rattle.encode.specs.Reception.{Reception}
-use Rattle.encode.specs.Tallies.{cells-++, longest-++}
 use Rattle.job.specs.declared.feed.Feed.{Feed}
 
 -- s comes to t by the clauses of the list, one after another
@@ -51,6 +50,14 @@ and-true : (a : Bool) → a ≡ (a && true)
 and-true true = refl
 and-true false = refl
 
+cells-++ : (a b : Clauses) → cells-of (a ++ b) ≡ cells-of a + cells-of b
+cells-++ [] b = omega arith
+cells-++ (c ∷ a) b = omega (arith, cells-++ a b)
+
+longest-++ : (a b : Clauses) → longest-of (a ++ b) ≡ max (longest-of a) (longest-of b)
+longest-++ [] b = omega arith
+longest-++ (c ∷ a) b = omega (arith, longest-++ a b)
+
 pub sat-all-++ : (α : Assignment) (a b : Clauses) → sat-all α (a ++ b) ≡ (sat-all α a && sat-all α b)
 sat-all-++ α [] b = refl
 sat-all-++ α (c ∷ a) b = ap (λ x. sat α c && x) (sat-all-++ α a b) ∙ sym (and-assoc (sat α c) (sat-all α a) (sat-all α b))
@@ -85,10 +92,10 @@ module _ {S : Type 0} (m : Model S) where
   pub taken-join : (s t u : S) (a b : Clauses) → Taken-all m a s t → Taken-all m b t u → Taken-all m (a ++ b) s u
   taken-join s t u a b p q = record {
     meaning = λ α w.
-      q .meaning α (p .still-watched α w) ∙ ap (λ x. x && sat-all (m .gives t α) b) (p .meaning α w)
-      ∙ ap (λ β. (m .inside s α && sat-all (m .gives s α) a) && sat-all β b) (p .same-values α)
-      ∙ and-assoc (m .inside s α) (sat-all (m .gives s α) a) (sat-all (m .gives s α) b)
-      ∙ ap (λ x. m .inside s α && x) (sym (sat-all-++ (m .gives s α) a b));
+        q .meaning α (p .still-watched α w) ∙ ap (λ x. x && sat-all (m .gives t α) b) (p .meaning α w)
+        ∙ ap (λ β. (m .inside s α && sat-all (m .gives s α) a) && sat-all β b) (p .same-values α)
+        ∙ and-assoc (m .inside s α) (sat-all (m .gives s α) a) (sat-all (m .gives s α) b)
+        ∙ ap (λ x. m .inside s α && x) (sym (sat-all-++ (m .gives s α) a b));
     counted = omega (arith, p .counted, q .counted, length-append a b);
     room = omega (arith, p .room, q .room, cells-++ a b);
     same-longest = q .same-longest ∙ p .same-longest;

@@ -1,5 +1,6 @@
 pub mod Refusals
 pub mod Calls
+pub mod Costs
 pub mod States
 pub mod Feeding
 pub mod Steps

@@ -24,7 +24,11 @@ pub fn write_rules(area: &mut [u8], exchanges: &mut [Exchange]) -> Written
 {
     let mut writer = Writer::new(area);
     let setup = drive_lent(&mut writer, exchanges);
-    Written { bytes: writer.text().len(), clauses: writer.count(), highest: setup.highest() }
+    Written {
+        bytes: writer.text().len(),
+        clauses: writer.count(),
+        highest: setup.highest(),
+    }
 }
 
 // The same through a switch over a switch; gives the bytes of the lines.

@@ -44,14 +44,25 @@ pub fn drive_lent<S: Sink>(sink: &mut S, exchanges: &mut [Exchange]) -> Setup
 pub fn drive_switched<S: Sink>(sink: &mut S, variable: u32, exchanges: &mut [Exchange]) -> Setup
     ensures { λ r. ⌜ Drove (switch-model (S·Sink .model)) (record { below = now (sink .entry); variable = variable }) (now (exchanges .entry)) (now (exchanges .exit)) (record { below = now (sink .exit); variable = variable }) (state-of r) ⌝ }
 {
-    let mut switch = Switch { below: sink, variable };
+    let mut switch = Switch {
+        below: sink,
+        variable,
+    };
     drive_lent(&mut switch, exchanges)
 }
 
 // The same through a switch over a switch over that sink.
-pub fn drive_piled<S: Sink>(sink: &mut S, first: u32, second: u32, exchanges: &mut [Exchange]) -> Setup
+pub fn drive_piled<S: Sink>(
+    sink: &mut S,
+    first: u32,
+    second: u32,
+    exchanges: &mut [Exchange],
+) -> Setup
     ensures { λ r. ⌜ Drove (switch-model (switch-model (S·Sink .model))) (record { below = record { below = now (sink .entry); variable = first }; variable = second }) (now (exchanges .entry)) (now (exchanges .exit)) (record { below = record { below = now (sink .exit); variable = first }; variable = second }) (state-of r) ⌝ }
 {
-    let mut switch = Switch { below: sink, variable: first };
+    let mut switch = Switch {
+        below: sink,
+        variable: first,
+    };
     drive_switched(&mut switch, second, exchanges)
 }

@@ -1,7 +1,7 @@
 // A job over any sink: begin, define and require.
 ghost use mathlib.Core.Path.{_≡_};
 ghost use mathlib.Core.Bool.{true, false};
-ghost use Prim.Native.Nat.{_^_, _≤_, _<_};
+ghost use Prim.Native.Nat.{_≤_, _<_};
 ghost use lib.ListN.{length};
 ghost use Rattle.cnf.specs.Questions.{first-no};
 ghost use Rattle.mtl.specs.Tables.{fits-after};
@@ -13,13 +13,13 @@ ghost use Rattle.job.specs.States.{state-of, Placed};
 ghost use Rattle.job.specs.Steps.{known, Step, Adding, Keeping, Beginning};
 use crate::call::Call;
 use crate::call::Reply;
+use crate::cost::Cost;
 use crate::handing::hand_begin;
 use crate::handing::hand_row;
 use crate::handing::hand_unit;
 use crate::refusal::Refusal;
 use crate::state::Setup;
 use cnf::sink::Sink;
-use encode::tally::Tally;
 use mtl::requirement::Requirement;
 use mtl::row::Row;
 
@@ -29,19 +29,17 @@ pub struct Job<S> {
     pub(crate) setup: Setup,
 }
 
-// The last three questions, of a list with this tally and of the job's highest variable.
-fn ask_limits<S: Sink>(sink: &S, tally: Tally, highest: u32) -> Result<(), Refusal>
-    ensures answer { λ r. ⌜ r ≡ first-no (limits (S·Sink .model .longest (now (sink .entry))) (S·Sink .model .highest (now (sink .entry))) (S·Sink .model .cells (now (sink .entry))) (tally .longest) highest (tally .cells)) tt ⌝ }
-    ensures bound { λ _. ⌜ S·Sink .model .cells (now (sink .entry)) < 2 ^ 64 ⌝ }
+// The last three questions, of a list of this cost and of the job's highest variable.
+fn ask_limits<S: Sink>(sink: &S, cost: Cost, highest: u32) -> Result<(), Refusal>
+    ensures { λ r. ⌜ r ≡ first-no (limits (S·Sink .model .longest (now (sink .entry))) (S·Sink .model .highest (now (sink .entry))) (S·Sink .model .cells (now (sink .entry))) (cost .longest) highest (cost .cells)) tt ⌝ }
 {
-    let free = sink.free_cells() as u128;
-    if tally.longest > sink.longest_clause() {
+    if cost.longest as usize > sink.longest_clause() {
         return Err(Refusal::Long);
     }
     if highest > sink.highest_variable() {
         return Err(Refusal::Variables);
     }
-    if tally.cells > free {
+    if cost.cells as usize > sink.free_cells() {
         return Err(Refusal::Cells);
     }
     Ok(())
@@ -53,7 +51,10 @@ impl<S: Sink> Job<S> {
         ensures sink { λ r. ⌜ r .sink ≡ sink ⌝ }
         ensures fresh { λ r. ⌜ known r ≡ fresh ⌝ }
     {
-        Job { sink, setup: Setup::new() }
+        Job {
+            sink,
+            setup: Setup::new(),
+        }
     }
 
     pub fn sink(&self) -> &S
@@ -74,8 +75,8 @@ impl<S: Sink> Job<S> {
         requires { ⌜ k ≤ 31 ⌝ }
         ensures { λ r. ⌜ Beginning (S·Sink .model) (now (self .entry)) k r (now (self .exit)) ⌝ }
     {
-        let tally = Tally::of_begin(k as u32);
-        if let Err(refusal) = ask_limits(&self.sink, tally, self.setup.highest_at(k)) {
+        let cost = Cost::of_begin(k);
+        if let Err(refusal) = ask_limits(&self.sink, cost, self.setup.highest_at(k)) {
             return Err(refusal);
         }
         hand_begin(&mut self.sink, k);
@@ -92,8 +93,8 @@ impl<S: Sink> Job<S> {
     {
         let number = self.setup.rows();
         let place = self.setup.place(row);
-        let tally = Tally::of_row(place.k, place.a, place.b, place.x, row);
-        if let Err(refusal) = ask_limits(&self.sink, tally, place.highest) {
+        let cost = self.setup.cost_of(row);
+        if let Err(refusal) = ask_limits(&self.sink, cost, place.highest) {
             return Err(refusal);
         }
         hand_row(&mut self.sink, place, row);
@@ -110,8 +111,8 @@ impl<S: Sink> Job<S> {
         ensures { λ r. ⌜ Keeping (S·Sink .model) (now (self .entry)) requirement r (now (self .exit)) ⌝ }
     {
         let literal = self.setup.literal(requirement);
-        let tally = Tally::of_unit(literal);
-        if let Err(refusal) = ask_limits(&self.sink, tally, self.setup.highest()) {
+        let cost = Cost::of_unit();
+        if let Err(refusal) = ask_limits(&self.sink, cost, self.setup.highest()) {
             return Err(refusal);
         }
         hand_unit(&mut self.sink, literal);

@@ -3,8 +3,8 @@ ghost use mathlib.Core.Path.{_≡_};
 ghost use mathlib.Core.List.{[], _∷_, _++_};
 ghost use Prim.Native.Nat.{_≤_, _<_};
 ghost use lib.ListN.{length, take};
-pub mod questions;
 
+pub mod questions;
 
 use mtl::requirement::Requirement;
 use mtl::table::Table;
@@ -19,27 +19,34 @@ pub struct Requirements {
 }
 
 impl Requirements {
-    pub fn new() -> Requirements
+    pub(crate) fn new() -> Requirements
         ensures { λ r. ⌜ take (r .len) (r .items) ≡ [] ⌝ }
     {
-        let none = Requirement { row: 0, instant: 0, value: false };
-        Requirements { items: [none; 64], len: 0 }
+        let none = Requirement {
+            row: 0,
+            instant: 0,
+            value: false,
+        };
+        Requirements {
+            items: [none; 64],
+            len: 0,
+        }
     }
 
-    pub fn len(&self) -> usize
+    pub(crate) fn len(&self) -> usize
         ensures { λ r. ⌜ r ≡ length (take (now (self .entry) .len) (now (self .entry) .items)) ⌝ }
     {
         self.len
     }
 
-    pub fn as_slice(&self) -> &[Requirement]
+    pub(crate) fn as_slice(&self) -> &[Requirement]
         ensures { λ r. ⌜ now r ≡ take (now (self .entry) .len) (now (self .entry) .items) ⌝ }
     {
         &self.items[0..self.len]
     }
 
     // Keeps one requirement more, where there is room.
-    pub fn push(&mut self, requirement: Requirement)
+    pub(crate) fn push(&mut self, requirement: Requirement)
         requires { ⌜ length (take (now self .len) (now self .items)) < 64 ⌝ }
         ensures { λ _. ⌜ take (now (self .exit) .len) (now (self .exit) .items) ≡ take (now (self .entry) .len) (now (self .entry) .items) ++ (requirement ∷ []) ⌝ }
     {

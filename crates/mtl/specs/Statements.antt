@@ -5,13 +5,13 @@ use mathlib.Core.Bool.{Bool, true, false}
 use mathlib.Core.List.{List, [], _∷_, _++_, reverse}
 use Prim.Native.Nat.{ℕ, _+_, _-_, _*_, _≤_, _<_}
 use lib.ListN.{length}
-use Rattle.cnf.specs.Clauses.{Assignment, Clauses, sat-all, cells-of, all-in-range}
+use Rattle.cnf.specs.Clauses.{Assignment, Clauses, sat-all, cells-of, longest-of, all-in-range}
 use Rattle.mtl.specs.declared.row.Row.{Row}
 use Rattle.mtl.specs.declared.requirement.Requirement.{Requirement}
 use Rattle.mtl.specs.Formula.{Sat}
 use Rattle.mtl.specs.Lists.{begin, period, top, start, added, clauses}
 use Rattle.mtl.specs.Runs.{Run, endless-word, formula, Settled, Belongs}
-use Rattle.mtl.specs.Sizes.{begin-cells, row-cells}
+use Rattle.mtl.specs.Sizes.{begin-cells, row-cells, begin-longest, row-longest}
 use Rattle.mtl.specs.Tables.{has-signal, fits-after, lawful, requires, Asked, Keeps, job}
 
 -- row n is true at instant i of the run
@@ -86,10 +86,12 @@ pub record Ranged : Type 0 where
       (k : ℕ) (rows : List Row) (qs : List Requirement) → lawful rows ≡ true → Asked k (length rows) qs
       → Takes (top k (reverse rows) - 1) (job k (reverse rows) qs)
 
--- the cells of begin's list, and of the list of a row that comes after the rows
+-- the cells and the longest clause of begin's list, and of the list of a row that comes after the rows
 pub record Sized : Type 0 where
   pub begins : (k : ℕ) → cells-of (begin k) ≡ begin-cells k
   pub row-added : (k : ℕ) (rows : List Row) (r : Row) → cells-of (added k (reverse rows) r) ≡ row-cells k r
+  pub begins-longest : (k : ℕ) → longest-of (begin k) ≡ begin-longest k
+  pub row-added-longest : (k : ℕ) (rows : List Row) (r : Row) → longest-of (added k (reverse rows) r) ≡ row-longest k r
 
 -- a row that is added has its clauses after those of the earlier rows, and leaves their variables and formulas as they were
 pub record Grown : Type 0 where

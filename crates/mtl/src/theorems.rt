@@ -45,7 +45,7 @@ pub fn ranged() -> u8
     0
 }
 
-// How many cells the lists take.
+// How many cells the lists take, and how many literals their longest clauses have.
 pub fn sized() -> u8
     ensures { λ _. ⌜ Sized ⌝ }
 {

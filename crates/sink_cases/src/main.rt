@@ -1,7 +1,6 @@
 // Edge cases of the sinks, one line each: the answer's number, 0 for accepted, and what the sink says then.
 ghost use mathlib.Core.Path.{_≡_};
 ghost use Rattle.sink_cases.specs.Answers.{answer-number};
-
 use cnf::clause::Literal;
 use cnf::refusal::Refusal;
 use cnf::sink::Sink;
@@ -33,13 +32,21 @@ fn literal(variable: u32, positive: bool) -> Literal
 }
 
 // Takes one clause into an empty writer over `area`, and prints the answer and the text.
-fn show_writer(rt: &LibcRuntime, name: &str, area: &mut [u8], clause: &[Literal]) -> io::Result<()> {
+fn show_writer(
+    rt: &LibcRuntime,
+    name: &str,
+    area: &mut [u8],
+    clause: &[Literal],
+) -> io::Result<()> {
     let mut writer = Writer::new(area);
     let free = writer.free_cells();
     let answer = answer_number(writer.take(clause));
     let bytes = writer.text().len();
     let count = writer.count();
-    println!(rt, "{name}: {free} cells, answer {answer}, {count} clauses, {bytes} bytes")
+    println!(
+        rt,
+        "{name}: {free} cells, answer {answer}, {count} clauses, {bytes} bytes"
+    )
 }
 
 fn show_lengths(rt: &LibcRuntime) -> io::Result<()> {
@@ -56,15 +63,30 @@ fn show_variables(rt: &LibcRuntime) -> io::Result<()> {
     show_writer(rt, "variable 0", &mut area, &[literal(0, true)])?;
     show_writer(rt, "variable 9999", &mut area, &[literal(9999, true)])?;
     show_writer(rt, "variable 10000", &mut area, &[literal(10000, true)])?;
-    show_writer(rt, "the largest variable", &mut area, &[literal(u32::MAX, false)])?;
-    show_writer(rt, "a good and a bad variable", &mut area, &[literal(1, true), literal(0, true)])
+    show_writer(
+        rt,
+        "the largest variable",
+        &mut area,
+        &[literal(u32::MAX, false)],
+    )?;
+    show_writer(
+        rt,
+        "a good and a bad variable",
+        &mut area,
+        &[literal(1, true), literal(0, true)],
+    )
 }
 
 fn show_free_bytes(rt: &LibcRuntime) -> io::Result<()> {
     show_writer(rt, "no byte", &mut [], &[literal(1, true)])?;
     show_writer(rt, "11 bytes", &mut [0u8; 11], &[literal(1, true)])?;
     show_writer(rt, "12 bytes", &mut [0u8; 12], &[literal(1, true)])?;
-    show_writer(rt, "12 bytes, two literals", &mut [0u8; 12], &[literal(1, true), literal(2, true)])
+    show_writer(
+        rt,
+        "12 bytes, two literals",
+        &mut [0u8; 12],
+        &[literal(1, true), literal(2, true)],
+    )
 }
 
 // The clause 5 -6 through the switch 9, and a clause through switches that are no variables.
@@ -81,7 +103,10 @@ fn show_switches(rt: &LibcRuntime) -> io::Result<()> {
     let zero = answer_number(take_switched(&mut writer, 0, &clause));
     let high = answer_number(take_switched(&mut writer, 10000, &clause));
     let nothing = writer.text().len();
-    println!(rt, "switch 0: {zero}, switch 10000: {high}, {nothing} bytes")
+    println!(
+        rt,
+        "switch 0: {zero}, switch 10000: {high}, {nothing} bytes"
+    )
 }
 
 // A switch over a switch over a judge.
@@ -93,7 +118,10 @@ fn show_pile(rt: &LibcRuntime) -> io::Result<()> {
     let second = answer_number(pile.take(&[literal(3, true)]));
     let third = answer_number(pile.take(&[literal(4, true)]));
     let fault = pile.below.below.first_false();
-    println!(rt, "pile: longest {longest}, {free} cells, answers {first} {second} {third}, first false {fault}")
+    println!(
+        rt,
+        "pile: longest {longest}, {free} cells, answers {first} {second} {third}, first false {fault}"
+    )
 }
 
 // A byte other than 1 is false, and the first false clause keeps its number.
@@ -107,7 +135,10 @@ fn show_judge(rt: &LibcRuntime) -> io::Result<()> {
     let after = judge.first_false();
     let count = judge.count();
     let free = judge.free_cells();
-    println!(rt, "judge: highest {highest}, first false {before} then {after}, {count} clauses, {free} cells")
+    println!(
+        rt,
+        "judge: highest {highest}, first false {before} then {after}, {count} clauses, {free} cells"
+    )
 }
 
 fn show_long_judge(rt: &LibcRuntime) -> io::Result<()> {
@@ -117,7 +148,10 @@ fn show_long_judge(rt: &LibcRuntime) -> io::Result<()> {
     let last = answer_number(judge.take(&[literal(9999, true)]));
     let past = answer_number(judge.take(&[literal(10000, true)]));
     let count = judge.count();
-    println!(rt, "long judge: highest {highest}, answers {last} {past}, {count} clauses")
+    println!(
+        rt,
+        "long judge: highest {highest}, answers {last} {past}, {count} clauses"
+    )
 }
 
 fn main(rt: LibcRuntime) -> io::Result<()> {

@@ -34,7 +34,7 @@ module _ (s : List ℕ) (a : ℕ) (xs : List ℕ) (h : a ≤ length s) where
   over-over : (ys : List ℕ) (b : ℕ) → b ≡ a + length xs → over (over s a xs) b ys ≡ over s a (xs ++ ys)
   over-over ys b e =
       let back : drop (b + length ys) (over s a xs) ≡ drop (a + length (xs ++ ys)) s =
-        ap (λ m. drop (m + length ys) (over s a xs)) e ∙ sym (drop-drop (length ys) (a + length xs) (over s a xs)) ∙ ap (drop (length ys)) drop-over ∙ drop-drop (length ys) (a + length xs) s ∙ ap (λ m. drop m s) (omega (arith, length-append xs ys)) in
+      ap (λ m. drop (m + length ys) (over s a xs)) e ∙ sym (drop-drop (length ys) (a + length xs) (over s a xs)) ∙ ap (drop (length ys)) drop-over ∙ drop-drop (length ys) (a + length xs) s ∙ ap (λ m. drop m s) (omega (arith, length-append xs ys)) in
       ap (λ p. p ++ (ys ++ drop (b + length ys) (over s a xs))) (take-over b e)
       ∙ ap (λ d. (take a s ++ xs) ++ (ys ++ d)) back
       ∙ append-assoc (take a s) xs _

@@ -67,10 +67,10 @@ read-number c p =
     decimal-by-steps (λ v ds. 1 ≤ v → v ≤ 9999 → (rest : List ℕ) → read-from c (start p) (ds ++ rest) ≡ read-from c (number p v) rest)
     (λ v h low high rest. first-digit c p v rest low h)
     (λ v ds h ih low high rest.
-      ap (read-from c (start p)) (append-assoc ds _ rest)
-      ∙ ih (omega arith) (omega arith) ((48 + v % 10) ∷ rest)
-      ∙ next-digit c p (v / 10) (v % 10) rest (omega arith) (omega arith)
-      ∙ ap (λ n. read-from c (number p n) rest) (omega arith))
+    ap (read-from c (start p)) (append-assoc ds _ rest)
+    ∙ ih (omega arith) (omega arith) ((48 + v % 10) ∷ rest)
+    ∙ next-digit c p (v / 10) (v % 10) rest (omega arith) (omega arith)
+    ∙ ap (λ n. read-from c (number p n) rest) (omega arith))
 
 read-literal : (c : Clause) (p : Bool) (v : ℕ) (rest : List ℕ) → within 9999 (record { variable = v; positive = p }) ≡ true → read-from c between ((sign p ++ (decimal v ++ (32 ∷ []))) ++ rest) ≡ read-from (c ++ (record { variable = v; positive = p } ∷ [])) between rest
 unfolding read-from start
@@ -79,7 +79,7 @@ read-literal c p v rest ok =
     let low = leb-true 1 v (ends .0) in
     let high = leb-true v 9999 (ends .1) in
     let go : (q : Bool) → read-from c (start q) (decimal v ++ (32 ∷ rest)) ≡ read-from (c ++ (record { variable = v; positive = q } ∷ [])) between rest =
-      λ q. read-number c q v (omega arith) low high (32 ∷ rest) in
+    λ q. read-number c q v (omega arith) low high (32 ∷ rest) in
     signed p go
   where
     signed : (p : Bool) → ((q : Bool) → read-from c (start q) (decimal v ++ (32 ∷ rest)) ≡ read-from (c ++ (record { variable = v; positive = q } ∷ [])) between rest) → read-from c between ((sign p ++ (decimal v ++ (32 ∷ []))) ++ rest) ≡ read-from (c ++ (record { variable = v; positive = p } ∷ [])) between rest
@@ -154,8 +154,7 @@ digit-more n b low h k high =
 
 -- the step of each place, from what holds of the rest of the text
 module _ (bs : List ℕ) (cs : Clauses) (c : Clause) (ok : in-range 9999 c ≡ true)
-  (rest : (d : Clause) (q : Place) → Sound q → in-range 9999 d ≡ true → (ds : Clauses) → read-from d q bs ≡ Some ds → Holds ((joined literal-text d ++ shown q) ++ bs) ds) where
-
+    (rest : (d : Clause) (q : Place) → Sound q → in-range 9999 d ≡ true → (ds : Clauses) → read-from d q bs ≡ Some ds → Holds ((joined literal-text d ++ shown q) ++ bs) ds) where
   -- the next place is q, whose text is one byte longer
   step : (p q : Place) (b : ℕ) → Sound q → shown p ++ (b ∷ []) ≡ shown q → read-from c q bs ≡ Some cs → Holds ((joined literal-text c ++ shown p) ++ (b ∷ bs)) cs
   step p q b s e r =
@@ -167,19 +166,19 @@ module _ (bs : List ℕ) (cs : Clauses) (c : Clause) (ok : in-range 9999 c ≡ t
   from-between b e =
       ⊎-elim (λ (y, r). step between minus b tt (ap (λ n. n ∷ []) (eqb-true b 45 y)) r)
       (λ (n, f). ⊎-elim (λ (y, r). step between closed b tt (ap (λ n. n ∷ []) (eqb-true b 48 y)) r)
-        (λ (n₁, g). ⊎-elim (λ (y, r).
-            let ends = and-parts (leb 49 b) (leb b 57) y in
-            let low = leb-true 49 b (ends .0) in let high = leb-true b 57 (ends .1) in
-            step between (number true (b - 48)) b (omega arith, omega arith) (digit-is b (ends .0) (ends .1)) r)
-          (λ (n₂, z). none-some cs z) (cond-some _ _ _ cs g)) (cond-some _ _ _ cs f)) (cond-some _ _ _ cs e)
+      (λ (n₁, g). ⊎-elim (λ (y, r).
+      let ends = and-parts (leb 49 b) (leb b 57) y in
+      let low = leb-true 49 b (ends .0) in let high = leb-true b 57 (ends .1) in
+      step between (number true (b - 48)) b (omega arith, omega arith) (digit-is b (ends .0) (ends .1)) r)
+      (λ (n₂, z). none-some cs z) (cond-some _ _ _ cs g)) (cond-some _ _ _ cs f)) (cond-some _ _ _ cs e)
 
   from-minus : (b : ℕ) → read-from c minus (b ∷ bs) ≡ Some cs → Holds ((joined literal-text c ++ shown minus) ++ (b ∷ bs)) cs
   unfolding read-from shown Sound
   from-minus b e =
       ⊎-elim (λ (y, r).
-          let ends = and-parts (leb 49 b) (leb b 57) y in
-          let low = leb-true 49 b (ends .0) in let high = leb-true b 57 (ends .1) in
-          step minus (number false (b - 48)) b (omega arith, omega arith) (ap (λ t. 45 ∷ t) (digit-is b (ends .0) (ends .1))) r)
+      let ends = and-parts (leb 49 b) (leb b 57) y in
+      let low = leb-true 49 b (ends .0) in let high = leb-true b 57 (ends .1) in
+      step minus (number false (b - 48)) b (omega arith, omega arith) (ap (λ t. 45 ∷ t) (digit-is b (ends .0) (ends .1))) r)
       (λ (n, z). none-some cs z) (cond-some _ _ _ cs e)
 
   literal-ends : (p : Bool) (n b : ℕ) → b ≡ 32 → (joined literal-text c ++ (sign p ++ decimal n)) ++ (b ∷ bs) ≡ (joined literal-text (c ++ (record { variable = n; positive = p } ∷ [])) ++ []) ++ bs
@@ -192,27 +191,28 @@ module _ (bs : List ℕ) (cs : Clauses) (c : Clause) (ok : in-range 9999 c ≡ t
   unfolding read-from shown Sound
   from-number p n b s e =
       ⊎-elim (λ (y, r).
-          let l : Literal = record { variable = n; positive = p } in
-          let ranged : within 9999 (record { variable = n; positive = p }) ≡ true = and-from (leb 1 n) (leb n 9999) (le-leb 1 n (s .0)) (le-leb n 9999 (s .1)) in
-          let h = rest (c ++ (record { variable = n; positive = p } ∷ [])) between tt (in-range-push 9999 c (record { variable = n; positive = p }) ok ranged) cs r in
-          (literal-ends p n b (eqb-true b 32 y) ∙ h .0, h .1))
+      let l : Literal = record { variable = n; positive = p } in
+      let ranged : within 9999 (record { variable = n; positive = p }) ≡ true = and-from (leb 1 n) (leb n 9999) (le-leb 1 n (s .0)) (le-leb n 9999 (s .1)) in
+      let h = rest (c ++ (record { variable = n; positive = p } ∷ [])) between tt (in-range-push 9999 c (record { variable = n; positive = p }) ok ranged) cs r in
+      (literal-ends p n b (eqb-true b 32 y) ∙ h .0, h .1))
       (λ (m, f). ⊎-elim (λ (y, r).
-          let parts = and-parts (leb 48 b && leb b 57) (leb (10 * n + (b - 48)) 9999) y in
-          let ends = and-parts (leb 48 b) (leb b 57) (parts .0) in
-          let low = leb-true 48 b (ends .0) in let high = leb-true b 57 (ends .1) in
-          let small = leb-true (10 * n + (b - 48)) 9999 (parts .1) in
-          step (number p n) (number p (10 * n + (b - 48))) b (omega (arith, s .0), small) (append-assoc (sign p) (decimal n) (b ∷ []) ∙ ap (λ t. sign p ++ t) (digit-more n b (s .0) low high small)) r)
-        (λ (m₁, z). none-some cs z) (cond-some _ _ _ cs f)) (cond-some _ _ _ cs e)
+      let parts = and-parts (leb 48 b && leb b 57) (leb (10 * n + (b - 48)) 9999) y in
+      let ends = and-parts (leb 48 b) (leb b 57) (parts .0) in
+      let low = leb-true 48 b (ends .0) in let high = leb-true b 57 (ends .1) in
+      let small = leb-true (10 * n + (b - 48)) 9999 (parts .1) in
+      step (number p n) (number p (10 * n + (b - 48))) b (omega (arith, s .0), small) (append-assoc (sign p) (decimal n) (b ∷ []) ∙ ap (λ t. sign p ++ t) (digit-more n b (s .0) low high small)) r)
+      (λ (m₁, z). none-some cs z) (cond-some _ _ _ cs f)) (cond-some _ _ _ cs e)
 
   from-closed : (b : ℕ) → read-from c closed (b ∷ bs) ≡ Some cs → Holds ((joined literal-text c ++ shown closed) ++ (b ∷ bs)) cs
   unfolding read-from shown Sound
   from-closed b e =
       ⊎-elim (λ (y, r).
-          let (ds, f, g) = before-some c (read-from [] between bs) cs r in
-          let h = rest [] between tt refl ds f in
-          (byte-more (joined literal-text c) (48 ∷ []) (48 ∷ (10 ∷ [])) b bs (ap (λ z. 48 ∷ (z ∷ [])) (eqb-true b 10 y))
+      let (ds, f, g) = before-some c (read-from [] between bs) cs r in
+      let h = rest [] between tt refl ds f in (
+        byte-more (joined literal-text c) (48 ∷ []) (48 ∷ (10 ∷ [])) b bs (ap (λ z. 48 ∷ (z ∷ [])) (eqb-true b 10 y))
             ∙ ap (λ t. (joined literal-text c ++ (48 ∷ (10 ∷ []))) ++ t) (h .0) ∙ ap (joined line) (sym g),
-           ap (all-in-range 9999) g ∙ and-from (in-range 9999 c) (all-in-range 9999 ds) ok (h .1)))
+        ap (all-in-range 9999) g ∙ and-from (in-range 9999 c) (all-in-range 9999 ds) ok (h .1),
+      ))
       (λ (n, z). none-some cs z) (cond-some _ _ _ cs e)
 
 nothing-left : (c : Clause) (cs : Clauses) → cond (no-literal c) (Some []) None ≡ Some cs → Holds ((joined literal-text c ++ []) ++ []) cs

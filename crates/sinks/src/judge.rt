@@ -1,6 +1,7 @@
 // A sink that judges one assignment, which an area of bytes gives.
 ghost use mathlib.Core.Path.{_≡_};
 ghost use Prim.Native.Nat.{_+_, _*_, _≤_};
+
 pub mod sink;
 
 // Variable v is true if byte v - 1 of the area is 1.
@@ -26,7 +27,12 @@ impl<'a> Judge<'a> {
     pub fn into_area(self) -> &'a [u8]
         ensures { λ r. ⌜ now r ≡ now (self .entry .area) ⌝ }
     {
-        let Judge { area, cells: _, taken: _, fault: _ } = self;
+        let Judge {
+            area,
+            cells: _,
+            taken: _,
+            fault: _,
+        } = self;
         area
     }
 }

@@ -3,11 +3,11 @@ ghost use mathlib.Core.Path.{_≡_};
 ghost use Rattle.std.specs.Results.{Cases};
 ghost use Rattle.std.specs.declared.result.Result.the-variants.{Err};
 ghost use Rattle.sinks.specs.Single.{one-answer, Wrote-one};
+use crate::writer::Writer;
+use crate::writer::sink::WriterSink;
 use cnf::clause::Literal;
 use cnf::refusal::Refusal;
 use cnf::switch::take_switched;
-use crate::writer::Writer;
-use crate::writer::sink::WriterSink;
 
 // Writes the line of `clause` behind the negated `variable`, and gives the number of bytes written.
 pub fn write_switched(area: &mut [u8], variable: u32, clause: &[Literal]) -> Result<usize, Refusal>

@@ -5,6 +5,7 @@ ghost use Prim.Native.Nat.{_+_, _≤_};
 ghost use denote.Ref.{now, name};
 ghost use lib.ListN.{length, take};
 ghost use Rattle.sinks.specs.Lines.{over, Written};
+
 pub mod sink;
 
 // Holds the lines at the front of its area.
@@ -44,7 +45,11 @@ impl<'a> Writer<'a> {
         ensures area { λ r. ⌜ now r ≡ now (self .entry .area) ⌝ }
         ensures name { λ r. ⌜ name r ≡ name (self .entry .area) ⌝ }
     {
-        let Writer { area, used: _, taken: _ } = self;
+        let Writer {
+            area,
+            used: _,
+            taken: _,
+        } = self;
         area
     }
 }

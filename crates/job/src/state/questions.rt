@@ -11,8 +11,10 @@ ghost use Rattle.mtl.specs.Shapes.{given};
 ghost use Rattle.mtl.specs.Lists.{value};
 ghost use Rattle.mtl.specs.Tables.{all-below, fits-after};
 ghost use Rattle.cnf.specs.Questions.{first-no};
-ghost use Rattle.job.specs.Calls.{fresh, highest, row-with, operator-at, unused-zero, low-signal, new-signal, begin-asks, define-asks, require-asks, requirement, with-bound, with-row, with-requirement};
+ghost use Rattle.job.specs.Calls.{fresh, highest, row-with, operator-at, unused-zero, low-signal, new-signal, begin-asks, define-asks, require-asks, requirement, define-list, with-bound, with-row, with-requirement};
+ghost use Rattle.job.specs.Costs.{Costs};
 ghost use Rattle.job.specs.States.{state-of, Placed};
+use crate::cost::Cost;
 use crate::refusal::Refusal;
 use crate::state::Requirements;
 use crate::state::Setup;
@@ -26,8 +28,11 @@ use mtl::row::Row;
 use mtl::table::Table;
 
 const MOST_ROWS: usize = 32;
+
 const MOST_REQUIREMENTS: usize = 64;
+
 const MOST_DISTANCE: u8 = 31;
+
 const MOST_SIGNAL: u8 = 31;
 
 // The codes are 1 to 17.
@@ -83,13 +88,18 @@ pub struct Place {
 }
 
 impl Setup {
-    pub fn new() -> Setup
+    pub(crate) fn new() -> Setup
         ensures { λ r. ⌜ state-of r ≡ fresh ⌝ }
     {
-        Setup { begun: false, bound: 0, table: Table::new(), kept: Requirements::new() }
+        Setup {
+            begun: false,
+            bound: 0,
+            table: Table::new(),
+            kept: Requirements::new(),
+        }
     }
 
-    pub fn ask_begin(&self, k: u8) -> Result<(), Refusal>
+    pub(crate) fn ask_begin(&self, k: u8) -> Result<(), Refusal>
         ensures { λ r. ⌜ r ≡ first-no (begin-asks (state-of (now (self .entry))) k) tt ⌝ }
     {
         if self.begun {
@@ -117,7 +127,7 @@ impl Setup {
         }
     }
 
-    pub fn ask_define(&self, code: u8, a: u8, b: u8, t: u8) -> Result<Row, Refusal>
+    pub(crate) fn ask_define(&self, code: u8, a: u8, b: u8, t: u8) -> Result<Row, Refusal>
         ensures { λ r. ⌜ r ≡ first-no (define-asks (state-of (now (self .entry))) code a b t) (row-with code a b t) ⌝ }
     {
         if !self.begun {
@@ -145,7 +155,12 @@ impl Setup {
         Ok(row)
     }
 
-    pub fn ask_require(&self, row: u8, instant: u8, value: u8) -> Result<Requirement, Refusal>
+    pub(crate) fn ask_require(
+        &self,
+        row: u8,
+        instant: u8,
+        value: u8,
+    ) -> Result<Requirement, Refusal>
         ensures { λ r. ⌜ r ≡ first-no (require-asks (state-of (now (self .entry))) row instant value) (requirement row instant value) ⌝ }
     {
         if !self.begun {
@@ -163,7 +178,11 @@ impl Setup {
         if self.kept.len() >= MOST_REQUIREMENTS {
             return Err(Refusal::Requirements);
         }
-        Ok(Requirement { row, instant, value: value == 1 })
+        Ok(Requirement {
+            row,
+            instant,
+            value: value == 1,
+        })
     }
 }
 
@@ -173,18 +192,22 @@ impl Setup {
         ensures value { λ r. ⌜ r ≡ highest (state-of (now (self .entry))) ⌝ }
         ensures bound { λ r. ⌜ r ≤ 2112 ⌝ }
     {
-        if self.begun { self.table.highest(self.bound) } else { 0 }
+        if self.begun {
+            self.table.highest(self.bound)
+        } else {
+            0
+        }
     }
 
     // The highest variable that the job would have with the bound k.
-    pub fn highest_at(&self, k: u8) -> u32
+    pub(crate) fn highest_at(&self, k: u8) -> u32
         ensures { λ r. ⌜ r ≡ highest (with-bound (state-of (now (self .entry))) k) ⌝ }
     {
         self.table.highest(k)
     }
 
     // Where the row would lie.
-    pub fn place(&self, row: Row) -> Place
+    pub(crate) fn place(&self, row: Row) -> Place
         requires begun { ⌜ now self .begun ≡ true ⌝ }
         requires near { ⌜ distance row ≤ 31 ⌝ }
         ensures { λ r. ⌜ Placed (state-of (now (self .entry))) row r ⌝ }
@@ -200,16 +223,28 @@ impl Setup {
         }
     }
 
+    // What the row's list would ask of a sink.
+    pub(crate) fn cost_of(&self, row: Row) -> Cost
+        ensures { λ r. ⌜ Costs (define-list (state-of (now (self .entry))) row) r ⌝ }
+    {
+        Cost::of_row(self.bound, row)
+    }
+
     // The literal that a requirement asks for.
-    pub fn literal(&self, requirement: Requirement) -> Literal
+    pub(crate) fn literal(&self, requirement: Requirement) -> Literal
         ensures { λ r. ⌜ r ≡ given (requirement .value) (value (now (self .entry) .bound) (reverse (state-of (now (self .entry)) .rows)) (requirement .row) (requirement .instant)) ⌝ }
     {
-        let literal = self.table.value(self.bound, requirement.row, requirement.instant);
-        if requirement.value { literal } else { literal.opposite() }
+        let literal = self.table
+            .value(self.bound, requirement.row, requirement.instant);
+        if requirement.value {
+            literal
+        } else {
+            literal.opposite()
+        }
     }
 
     // Begins with the bound k.
-    pub fn open(&mut self, k: u8)
+    pub(crate) fn open(&mut self, k: u8)
         requires { ⌜ k ≤ 31 ⌝ }
         ensures { λ _. ⌜ state-of (now (self .exit)) ≡ with-bound (state-of (now (self .entry))) k ⌝ }
     {
@@ -217,7 +252,7 @@ impl Setup {
         self.bound = k;
     }
 
-    pub fn add(&mut self, row: Row)
+    pub(crate) fn add(&mut self, row: Row)
         requires room { ⌜ length (state-of (now self) .rows) < 32 ⌝ }
         requires fit { ⌜ fits-after (state-of (now self) .rows) row ≡ true ⌝ }
         ensures { λ _. ⌜ state-of (now (self .exit)) ≡ with-row (state-of (now (self .entry))) row ⌝ }
@@ -225,7 +260,7 @@ impl Setup {
         self.table.push(row);
     }
 
-    pub fn keep(&mut self, requirement: Requirement)
+    pub(crate) fn keep(&mut self, requirement: Requirement)
         requires { ⌜ length (state-of (now self) .kept) < 64 ⌝ }
         ensures { λ _. ⌜ state-of (now (self .exit)) ≡ with-requirement (state-of (now (self .entry))) requirement ⌝ }
     {
@@ -235,9 +270,17 @@ impl Setup {
 
 impl Setup {
     // The number of rows, which is the number of the next one.
-    pub fn rows(&self) -> u8
+    pub(crate) fn rows(&self) -> u8
         ensures { λ r. ⌜ r ≡ length (state-of (now (self .entry)) .rows) ⌝ }
     {
         self.table.len() as u8
+    }
+}
+
+impl Setup {
+    pub fn is_begun(&self) -> bool
+        ensures { λ r. ⌜ r ≡ state-of (now (self .entry)) .begun ⌝ }
+    {
+        self.begun
     }
 }

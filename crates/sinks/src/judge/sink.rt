@@ -2,8 +2,8 @@
 ghost use mathlib.Core.Path.{_≡_};
 ghost use Rattle.cnf.specs.Clauses.{truth, sat};
 ghost use Rattle.sinks.specs.Models.{judge-model, New-judge, assigned, first-fault};
-use cnf::clause::Literal;
 use crate::judge::Judge;
+use cnf::clause::Literal;
 use cnf::refusal::Refusal;
 use cnf::refusal::examine;
 use cnf::sink::Sink;
@@ -52,7 +52,11 @@ fn satisfies(area: &[u8], clause: &[Literal]) -> bool
 fn next_fault(fault: usize, number: usize, satisfied: bool) -> usize
     ensures { λ r. ⌜ r ≡ first-fault fault number satisfied ⌝ }
 {
-    if fault == 0 && !satisfied { number } else { fault }
+    if fault == 0 && !satisfied {
+        number
+    } else {
+        fault
+    }
 }
 
 impl<'a> Judge<'a> {
@@ -60,7 +64,12 @@ impl<'a> Judge<'a> {
     pub fn new(area: &'a [u8]) -> Judge<'a>
         ensures { λ r. ⌜ New-judge (now (area .entry)) r ⌝ }
     {
-        Judge { area, cells: CELLS, taken: 0, fault: 0 }
+        Judge {
+            area,
+            cells: CELLS,
+            taken: 0,
+            fault: 0,
+        }
     }
 }
 

@@ -2,15 +2,16 @@
 ghost use mathlib.Core.Path.{_≡_};
 ghost use denote.Ref.{name};
 ghost use Rattle.sinks.specs.Models.{writer-model, New-writer};
-use cnf::clause::Literal;
 use crate::line::put_line;
+use crate::writer::Writer;
+use cnf::clause::Literal;
 use cnf::refusal::Refusal;
 use cnf::refusal::examine;
 use cnf::sink::Sink;
-use crate::writer::Writer;
 
 // What a writer takes, whatever its area.
 const LONGEST: usize = 40;
+
 const HIGHEST: u32 = 9999;
 
 // The bytes of an area that a writer uses at most.
@@ -28,7 +29,11 @@ impl<'a> Writer<'a> {
         ensures new { λ r. ⌜ New-writer (now (area .entry)) r ⌝ }
         ensures name { λ r. ⌜ name (r .area) ≡ name (area .entry) ⌝ }
     {
-        Writer { area, used: 0, taken: 0 }
+        Writer {
+            area,
+            used: 0,
+            taken: 0,
+        }
     }
 }
 

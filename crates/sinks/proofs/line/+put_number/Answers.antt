@@ -33,5 +33,5 @@ returns t c =
     let first = c .put-number-next .ensures in
     wrote-numeral _ _ _ _ _ (omega arith)
     (over-next (c .args .area .now) _ _ (c .args .at) _ _ _ (omega arith) (numeral-area (omega arith) first) (numeral-end (omega arith) first) (c .put-2 .ensures .area)
-      ∙ ap (over (c .args .area .now) (c .args .at)) (sym step))
+    ∙ ap (over (c .args .area .now) (c .args .at)) (sym step))
     (omega (arith, decimal-longer n (c .if-number-lt10 .left) (omega arith), numeral-end (omega arith) first))

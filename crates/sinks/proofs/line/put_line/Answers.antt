@@ -18,6 +18,6 @@ returns c =
     let zero = c .put-feed .ensures in
     record {
       area = over-next (c .args .area .now) _ _ (c .args .at) _ _ (48 ∷ (10 ∷ [])) (omega arith) (wrote .area) (wrote .end)
-        (over-next _ _ _ _ _ (48 ∷ []) (10 ∷ []) (omega (arith, line-length (c .args .clause .now))) (zero .area) (zero .end) (c .put .ensures .area));
+          (over-next _ _ _ _ _ (48 ∷ []) (10 ∷ []) (omega (arith, line-length (c .args .clause .now))) (zero .area) (zero .end) (c .put .ensures .area));
       end = omega (arith, line-length (c .args .clause .now));
     }

@@ -22,6 +22,6 @@ returns c =
     let end = numeral-end (omega arith) spelled in
     record {
       area = over-next (c .args .area .now) _ _ (c .args .at) _ _ _ (omega arith) (signed .area) (signed .end)
-        (over-next _ _ _ _ _ _ _ (omega arith) (numeral-area (omega arith) spelled) end (c .put .ensures .area));
+          (over-next _ _ _ _ _ _ _ (omega arith) (numeral-area (omega arith) spelled) end (c .put .ensures .area));
       end = omega arith;
     }

@@ -21,10 +21,11 @@ pub loop-literal-again : need.loop-literal-again
 loop-literal-again c =
     let xs = c .args .clause .now in let i = c .loop-literal .literal-index in
     let wrote = c .put-literal-next .ensures in
-    let lt = c .loop-literal-test .taken in
-    (over-next (c .args .area .now) _ _ (c .args .at) _ _ _ (omega arith) (c .loop-literal .inv .0) (c .loop-literal .inv .1) (wrote .area)
-      ∙ ap (over (c .args .area .now) (c .args .at)) (sym (texts-more xs i _ lt)),
-     omega (arith, length-texts-more xs i (negated 0) lt, c .loop-literal .inv .1))
+    let lt = c .loop-literal-test .taken in (
+      over-next (c .args .area .now) _ _ (c .args .at) _ _ _ (omega arith) (c .loop-literal .inv .0) (c .loop-literal .inv .1) (wrote .area)
+          ∙ ap (over (c .args .area .now) (c .args .at)) (sym (texts-more xs i _ lt)),
+      omega (arith, length-texts-more xs i (negated 0) lt, c .loop-literal .inv .1),
+    )
 
 pub returns : need.returns
 returns c =

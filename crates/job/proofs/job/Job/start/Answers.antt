@@ -15,16 +15,16 @@ hand-begin-requires g c κs =
     let j = c .args .self .now in
     let takes = subst (λ n. Takes n (begin (c .args .k))) (sym (c .highest-at .ensures)) (begin-takes (known j) (c .args .k)) in
     record {
-      room = limits-fit m (j .sink) (begin (c .args .k)) (c .of-begin-tally .result) (c .highest-at .result) (c .of-begin-tally .ensures) (c .ask-limits .ensures .bound) (c .in-rest .ensures tt .answer) takes;
+      room = limits-fit m (j .sink) (begin (c .args .k)) (c .of-begin-cost .result) (c .highest-at .result) (c .of-begin-cost .ensures) (c .in-rest .ensures tt) takes;
       low = c .pre;
     }
 
 pub returns-in-Err : need.returns-in-Err
 returns-in-Err g c =
     let j = c .args .self .now in
-    not-finished (g .S·Sink .model) j (begin (c .args .k)) (with-bound (known j) (c .args .k)) _ (c .of-begin-tally .result) (c .highest-at .result) (c .of-begin-tally .ensures) (c .ask-limits .ensures .bound) (c .highest-at .ensures) (c .in-Err .refusal) (c .in-Err .ensures tt .answer)
+    not-finished (g .S·Sink .model) j (begin (c .args .k)) (with-bound (known j) (c .args .k)) _ (c .of-begin-cost .result) (c .highest-at .result) (c .of-begin-cost .ensures) (c .highest-at .ensures) (c .in-Err .refusal) (c .in-Err .ensures tt)
 
 pub returns : need.returns
 returns g c =
     let j = c .args .self .now in
-    finished (g .S·Sink .model) j (begin (c .args .k)) (with-bound (known j) (c .args .k)) _ (c .of-begin-tally .result) (c .highest-at .result) (c .of-begin-tally .ensures) (c .ask-limits .ensures .bound) (c .highest-at .ensures) _ (c .in-rest .ensures tt .answer) (c .open .ensures) (c .hand-begin .ensures)
+    finished (g .S·Sink .model) j (begin (c .args .k)) (with-bound (known j) (c .args .k)) _ (c .of-begin-cost .result) (c .highest-at .result) (c .of-begin-cost .ensures) (c .highest-at .ensures) _ (c .in-rest .ensures tt) (c .open .ensures) (c .hand-begin .ensures)

@@ -36,7 +36,7 @@ ghost-self c =
     let d = c .args .clause .now in
     let r = roomy (length (s .area .now)) (s .used) _ d (c .free-cells-cells .ensures) (c .in-Continue-examine .ensures tt) in
     let text : c .place .last .self .area .now ≡ over (s .area .now) (s .used) (line d) =
-      c .place .ensures .area ∙ ap (over (s .area .now) (s .used)) (front-is _ _ _ _ (c .put-line-n .ensures .area) (c .put-line-n .ensures .end)) in
+    c .place .ensures .area ∙ ap (over (s .area .now) (s .used)) (front-is _ _ _ _ (c .put-line-n .ensures .area) (c .put-line-n .ensures .end)) in
     let n : c .put-line-n .result ≡ 0 + length (line d) = c .put-line-n .ensures .end in
     let P : ℕ → Type 0 = λ k. Written (c .place .last .self .area .now) (s .used + c .put-line-n .result) (k + 1) in
     (subst P (sym (c .place .ensures .taken)) (written-next (s .area .now) _ (s .used) _ (s .taken) d (s .written) (r .ranged) text (omega arith) (omega arith) (omega arith)), tt)
@@ -47,7 +47,7 @@ returns c =
     let d = c .args .clause .now in
     let r = roomy (length (s .area .now)) (s .used) _ d (c .free-cells-cells .ensures) (c .in-Continue-examine .ensures tt) in
     let text : c .place .last .self .area .now ≡ over (s .area .now) (s .used) (line d) =
-      c .place .ensures .area ∙ ap (over (s .area .now) (s .used)) (front-is _ _ _ _ (c .put-line-n .ensures .area) (c .put-line-n .ensures .end)) in
+    c .place .ensures .area ∙ ap (over (s .area .now) (s .used)) (front-is _ _ _ _ (c .put-line-n .ensures .area) (c .put-line-n .ensures .end)) in
     let n : c .put-line-n .result ≡ 0 + length (line d) = c .put-line-n .ensures .end in
     let used : s .used + c .put-line-n .result ≡ s .used + length (line d) = omega arith in
     record {
