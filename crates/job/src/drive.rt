@@ -25,9 +25,9 @@ pub fn perform_all<S: Sink>(job: &mut Job<S>, exchanges: &mut [Exchange])
 pub fn drive<S: Sink>(sink: S, exchanges: &mut [Exchange]) -> Job<S>
     ensures { λ r. ⌜ Drove (S·Sink .model) sink (now (exchanges .entry)) (now (exchanges .exit)) (r .sink) (known r) ⌝ }
 {
-    let mut job = Job::new(sink);
-    perform_all(&mut job, exchanges);
-    job
+    let mut made = Job::new(sink);
+    perform_all(&mut made, exchanges);
+    made
 }
 
 // The same over a sink that the caller keeps; gives back what the job knew in the end.

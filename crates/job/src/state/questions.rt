@@ -276,11 +276,3 @@ impl Setup {
         self.table.len() as u8
     }
 }
-
-impl Setup {
-    pub fn is_begun(&self) -> bool
-        ensures { λ r. ⌜ r ≡ state-of (now (self .entry)) .begun ⌝ }
-    {
-        self.begun
-    }
-}

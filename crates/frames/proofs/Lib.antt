@@ -1,0 +1,5 @@
+pub mod Spelling
+pub mod Framing
+pub mod Sealing
+pub mod Lawfulness
+pub mod Calling
