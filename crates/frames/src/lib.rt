@@ -1,4 +1,5 @@
 // Frames: one frame a line, in hexadecimal digits.
+#![tactic(auto)]
 mod buffer;
 mod decoding;
 mod encoding;

@@ -1,4 +1,5 @@
 // Rules of metric temporal logic with past, looping runs, and the clauses that say the same.
+#![tactic(auto)]
 pub mod bound;
 pub mod cells;
 pub mod layout;
