@@ -1,5 +1,6 @@
 // Cases of the answer reader, one line each: the verdict or the number of the refusal, and the bytes of the area.
 #![tactic(auto)]
+
 use answers::reading::read_answer;
 use answers::verdicts::Verdict;
 use calls::Call;

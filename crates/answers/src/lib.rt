@@ -1,5 +1,6 @@
 // The answer of a SAT solver, read from its text.
 #![tactic(auto)]
+
 mod numbers;
 pub mod reading;
 pub mod refusals;

@@ -1,5 +1,6 @@
 // The calls of a job as values, each with a record of what it is given.
 #![tactic(auto)]
+
 ghost use Rattle.std.specs.Prelude.{◌≡◌};
 
 // The bound of the rules that follow.

@@ -1,5 +1,6 @@
 // Clauses, the sinks that take them, and the layers over any sink.
 #![tactic(auto)]
+
 pub mod clause;
 pub mod lent;
 pub mod refusal;

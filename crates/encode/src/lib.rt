@@ -1,5 +1,6 @@
 // The clause lists of rows, handed one clause after another to a receiver.
 #![tactic(auto)]
+
 ghost use Rattle.std.specs.Prelude.{suc, ◌+◌, ◌<◌, ◌≤◌, [], ◌∷◌};
 ghost use Rattle.mtl.specs.Shapes.{unit};
 ghost use Rattle.mtl.specs.Rows.{distance};

@@ -1,5 +1,6 @@
 // Frames: one frame a line, in hexadecimal digits.
 #![tactic(auto)]
+
 mod buffer;
 mod decoding;
 mod encoding;

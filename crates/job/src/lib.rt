@@ -1,5 +1,6 @@
 // A job writes the clauses of rows and requirements into its sink.
 #![tactic(auto)]
+
 pub mod bottom;
 pub mod call;
 mod cost;

@@ -1,5 +1,6 @@
 // Cases of the job, one line each: the answers of a list of calls, and what the sink says then.
 #![tactic(auto)]
+
 use cnf::sink::Sink;
 use cnf::switch::Switch;
 use job::bottom::{judge_rules, write_piled, write_rules};

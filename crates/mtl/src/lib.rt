@@ -1,5 +1,6 @@
 // Rules of metric temporal logic with past, looping runs, and the clauses that say the same.
 #![tactic(auto)]
+
 pub mod bound;
 pub mod cells;
 pub mod layout;

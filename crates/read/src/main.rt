@@ -1,5 +1,6 @@
 // Reads a script from script.txt and a solver's answer on standard input, and prints the run, NOT IN, NONE, or why one is refused.
 #![tactic(auto)]
+
 use anyhow::anyhow;
 use report::reporting::make_report;
 use report::telling::REPORT_BYTES;

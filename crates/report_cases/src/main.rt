@@ -1,5 +1,6 @@
 // Cases of scripts with a solver's answers: what is told of each, and whether it is a refusal.
 #![tactic(auto)]
+
 use report::reporting::make_report;
 use report::telling::REPORT_BYTES;
 use script::file::WORK_BYTES;

@@ -1,5 +1,6 @@
 // What a rink asks of its plant: interlocks at one instant, and a rule over time.
 #![tactic(auto)]
+
 mod interlocks;
 mod rules;
 

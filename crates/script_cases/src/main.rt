@@ -1,6 +1,7 @@
 // Cases of scripts, one line each: the length of the file and its first line, or the refusal; and where a script over another sink
 // stops.
 #![tactic(auto)]
+
 mod building;
 mod showing;
 

@@ -1,5 +1,6 @@
 // Edge cases of the sinks, one line each: the answer's number, 0 for accepted, and what the sink says then.
 #![tactic(auto)]
+
 ghost use Rattle.std.specs.Prelude.{◌≡◌};
 ghost use Rattle.sink_cases.specs.Answers.{answer_number};
 

@@ -1,5 +1,6 @@
 // Runs in and out: the assignment of a run, and the run of an assignment.
 #![tactic(auto)]
+
 mod area;
 pub mod fill;
 mod parts;

@@ -1,5 +1,6 @@
 // Cases of fill and run, one line each: the answer, and the bytes or the letters that were written.
 #![tactic(auto)]
+
 use calls::Call;
 use job::call::Exchange;
 use job::drive::drive_lent;

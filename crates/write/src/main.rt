@@ -1,5 +1,6 @@
 // Reads a script on standard input and prints its file, or why it is refused.
 #![tactic(auto)]
+
 use anyhow::anyhow;
 use script::file::{FILE_BYTES, MOST_SCRIPT, WORK_BYTES, make_file};
 use std::io::{Read, Write};
