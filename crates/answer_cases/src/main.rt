@@ -3,7 +3,8 @@
 
 use answers::reading::read_answer;
 use answers::verdicts::Verdict;
-use calls::Call;
+use calls::{beginning, defining};
+use job::call::Call;
 use job::call::Exchange;
 use job::drive::drive_lent;
 use job::state::Setup;
@@ -246,10 +247,10 @@ fn show_length(rt: &HostRuntime, setup: &Setup, name: &str, comment: usize) -> a
 // The job with the most variables: bound 31, a signal, and 31 rows with variables of their own.
 fn show_largest(rt: &HostRuntime) -> anyhow::Result<()> {
     let mut exchanges = vec![in rt.alloc()]?;
-    exchanges.push(asked(Call::beginning(31)))?;
-    exchanges.push(asked(Call::defining(1, 0, 0, 0)))?;
+    exchanges.push(asked(beginning(31)))?;
+    exchanges.push(asked(defining(1, 0, 0, 0)))?;
     for _ in 0..31u8 {
-        exchanges.push(asked(Call::defining(6, 0, 0, 0)))?;
+        exchanges.push(asked(defining(6, 0, 0, 0)))?;
     }
     let setup = known(rt, exchanges.as_mut_slice(), 1_000_000)?;
     let highest = setup.highest();
@@ -275,9 +276,9 @@ fn main(rt: HostRuntime) -> anyhow::Result<()> {
     let setup = known(
         &rt,
         &mut [
-            asked(Call::beginning(0)),
-            asked(Call::defining(1, 0, 0, 0)),
-            asked(Call::defining(5, 0, 0, 0)),
+            asked(beginning(0)),
+            asked(defining(1, 0, 0, 0)),
+            asked(defining(5, 0, 0, 0)),
         ],
         400,
     )?;

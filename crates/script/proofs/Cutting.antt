@@ -7,7 +7,7 @@ use Rattle.std.specs.List.{AllByRecursion as All}
 use Rattle.cnf.specs.Sinks.{Model}
 use Rattle.text.specs.Split.{start, lines}
 use Rattle.frames.specs.declared.refusals.Refusal.TheVariants.{Digits}
-use Rattle.frames.specs.Script.{calling, written_call}
+use Rattle.calls.specs.Lines.{calling, written_call}
 use Rattle.job.specs.Calls.{State, fresh}
 use Rattle.script.specs.declared.refusal.Stop.{Stop}
 use Rattle.script.specs.Scripts.{by_line, line_answer, Ended, ScriptRan, DroveScript}

@@ -4,9 +4,9 @@ use Rattle.std.proofs.lemmas.List.{map_push, length_push}
 use Rattle.std.proofs.ByRecursion.{All-push}
 use Rattle.std.specs.List.{AllByRecursion as All}
 use Rattle.cnf.specs.Sinks.{Model}
-use Rattle.calls.specs.declared.Call.{Call}
+use Rattle.job.specs.declared.call.Call.{Call}
 use Rattle.text.specs.Split.{lines}
-use Rattle.frames.specs.Script.{calling, written_call}
+use Rattle.calls.specs.Lines.{calling, written_call}
 use Rattle.job.specs.declared.call.Reply.{Reply}
 use Rattle.job.specs.declared.job.Job.{Job}
 use Rattle.job.specs.Calls.{State, Answer, fresh}

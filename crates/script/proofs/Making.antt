@@ -2,9 +2,9 @@
 use Rattle.std.proofs.Common.{◌≡◌, ℕ, List, [], ◌∷◌, Ok, Err, Result, sym, refl, ap, ◌∙◌, subst, MutBor}
 use Rattle.cnf.specs.Sinks.{Model}
 use Rattle.cnf.specs.Layers.{lent_model}
-use Rattle.calls.specs.declared.Call.{Call}
+use Rattle.job.specs.declared.call.Call.{Call}
 use Rattle.frames.specs.declared.refusals.Refusal.{Refusal as LineRefusal}
-use Rattle.frames.specs.Script.{calling}
+use Rattle.calls.specs.Lines.{calling}
 use Rattle.job.specs.declared.job.Job.{Job}
 use Rattle.job.specs.Calls.{State, fresh}
 use Rattle.job.specs.Steps.{known}

@@ -5,7 +5,7 @@ ghost use Rattle.script.specs.Scripts.{LinePerformed, ScriptRan, DroveScript};
 
 use crate::refusal::{Refusal, Stop};
 use cnf::sink::Sink;
-use frames::scripts::call_of;
+use calls::lines::call_of;
 use job::job::Job;
 use job::state::Setup;
 use text::splitting::split_line;

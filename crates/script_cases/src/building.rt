@@ -1,7 +1,8 @@
 // Scripts that are made from calls.
 use crate::showing::show;
-use calls::Call;
-use frames::scripts::write_call;
+use calls::{beginning, defining};
+use job::call::Call;
+use calls::lines::write_call;
 
 // An assignment that makes every variable true.
 pub fn filled() -> [u8; 100] {
@@ -33,8 +34,8 @@ pub fn many(
     requirement: Call,
 ) -> anyhow::Result<Vec<u8>> {
     let mut script = Vec::new(rt.alloc());
-    add(&mut script, Call::beginning(bound))?;
-    add(&mut script, Call::defining(1, 0, 0, 0))?;
+    add(&mut script, beginning(bound))?;
+    add(&mut script, defining(1, 0, 0, 0))?;
     for _ in 0..rows {
         add(&mut script, row)?;
     }

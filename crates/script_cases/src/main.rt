@@ -6,7 +6,8 @@ mod building;
 mod showing;
 
 use building::{filled, many, show_script_of};
-use calls::Call;
+use calls::{beginning, defining, requiring};
+use job::call::Call;
 use cnf::switch::Switch;
 use script::running::drive_script;
 use showing::show;
@@ -46,23 +47,23 @@ fn show_lines(rt: &HostRuntime) -> anyhow::Result<()> {
 
 // Each refusal of a call over a writer, at its line.
 fn show_calls(rt: &HostRuntime) -> anyhow::Result<()> {
-    let begin = Call::beginning(1);
-    let signal = Call::defining(1, 0, 0, 0);
+    let begin = beginning(1);
+    let signal = defining(1, 0, 0, 0);
     let cases: [(&str, &[Call]); 14] = [
         ("begun twice", &[begin, begin]),
-        ("bound 31", &[Call::beginning(31)]),
-        ("bound 32", &[Call::beginning(32)]),
+        ("bound 31", &[beginning(31)]),
+        ("bound 32", &[beginning(32)]),
         ("a row before begin", &[signal]),
-        ("a requirement before begin", &[Call::requiring(0, 0, 0)]),
-        ("no operator", &[begin, Call::defining(18, 0, 0, 0)]),
-        ("an unused field", &[begin, Call::defining(1, 0, 1, 0)]),
-        ("no such operand", &[begin, Call::defining(2, 0, 0, 0)]),
-        ("signal 32", &[begin, Call::defining(1, 32, 0, 0)]),
+        ("a requirement before begin", &[requiring(0, 0, 0)]),
+        ("no operator", &[begin, defining(18, 0, 0, 0)]),
+        ("an unused field", &[begin, defining(1, 0, 1, 0)]),
+        ("no such operand", &[begin, defining(2, 0, 0, 0)]),
+        ("signal 32", &[begin, defining(1, 32, 0, 0)]),
         ("a signal twice", &[begin, signal, signal]),
-        ("distance 32", &[begin, signal, Call::defining(8, 0, 0, 32)]),
-        ("no such row", &[begin, Call::requiring(0, 0, 0)]),
-        ("a late instant", &[begin, signal, Call::requiring(0, 2, 0)]),
-        ("value 2", &[begin, signal, Call::requiring(0, 0, 2)]),
+        ("distance 32", &[begin, signal, defining(8, 0, 0, 32)]),
+        ("no such row", &[begin, requiring(0, 0, 0)]),
+        ("a late instant", &[begin, signal, requiring(0, 2, 0)]),
+        ("value 2", &[begin, signal, requiring(0, 0, 2)]),
     ];
     for (name, calls) in cases {
         show_script_of(rt, name, calls)?;
@@ -72,14 +73,14 @@ fn show_calls(rt: &HostRuntime) -> anyhow::Result<()> {
 
 // As many rows and requirements as there may be, and one more.
 fn show_limits(rt: &HostRuntime) -> anyhow::Result<()> {
-    let again = Call::defining(2, 0, 0, 0);
-    let keep = Call::requiring(0, 0, 1);
+    let again = defining(2, 0, 0, 0);
+    let keep = requiring(0, 0, 1);
     show(rt, "32 rows", &many(rt, 0, 31, again, 0, keep)?)?;
     show(rt, "33 rows", &many(rt, 0, 32, again, 0, keep)?)?;
     show(rt, "64 requirements", &many(rt, 0, 0, again, 64, keep)?)?;
     show(rt, "65 requirements", &many(rt, 0, 0, again, 65, keep)?)?;
     show(rt, "the longest script", &many(rt, 0, 31, again, 64, keep)?)?;
-    let wide = Call::defining(9, 0, 0, 31);
+    let wide = defining(9, 0, 0, 31);
     show(
         rt,
         "more cells than are free",

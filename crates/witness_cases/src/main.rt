@@ -1,7 +1,8 @@
 // Cases of fill and run, one line each: the answer, and the bytes or the letters that were written.
 #![tactic(auto)]
 
-use calls::Call;
+use calls::{beginning, defining};
+use job::call::Call;
 use job::call::Exchange;
 use job::drive::drive_lent;
 use job::state::Setup;
@@ -78,14 +79,14 @@ fn show_run(
 
 fn show_questions(rt: &HostRuntime) -> anyhow::Result<()> {
     let unasked = Exchange {
-        call: Call::beginning(0),
+        call: beginning(0),
         answer: None,
     };
     let fresh = after(&[], &mut []);
     show_fill(rt, "fill, not begun", &fresh, 0, &[0], 9, 9)?;
     show_run(rt, "run, not begun", &fresh, &[1], 1)?;
     let setup = after(
-        &[Call::beginning(1), Call::defining(1, 3, 0, 0)],
+        &[beginning(1), defining(1, 3, 0, 0)],
         &mut [unasked; 2],
     );
     show_fill(rt, "one letter for two instants", &setup, 0, &[8], 6, 2)?;
@@ -117,23 +118,23 @@ fn show_questions(rt: &HostRuntime) -> anyhow::Result<()> {
 // Previous, whose loop has to close on the signal.
 fn show_previous(rt: &HostRuntime) -> anyhow::Result<()> {
     let unasked = Exchange {
-        call: Call::beginning(0),
+        call: beginning(0),
         answer: None,
     };
     let short = after(
         &[
-            Call::beginning(1),
-            Call::defining(1, 0, 0, 0),
-            Call::defining(11, 0, 0, 0),
+            beginning(1),
+            defining(1, 0, 0, 0),
+            defining(11, 0, 0, 0),
         ],
         &mut [unasked; 3],
     );
     show_fill(rt, "previous, off on", &short, 1, &[0, 1], 8, 4)?;
     let long = after(
         &[
-            Call::beginning(2),
-            Call::defining(1, 0, 0, 0),
-            Call::defining(11, 0, 0, 0),
+            beginning(2),
+            defining(1, 0, 0, 0),
+            defining(11, 0, 0, 0),
         ],
         &mut [unasked; 3],
     );
@@ -143,30 +144,30 @@ fn show_previous(rt: &HostRuntime) -> anyhow::Result<()> {
 // A run under all seventeen operators, filled and read back.
 fn show_all_operators(rt: &HostRuntime) -> anyhow::Result<()> {
     let unasked = Exchange {
-        call: Call::beginning(0),
+        call: beginning(0),
         answer: None,
     };
     let setup = after(
         &[
-            Call::beginning(6),
-            Call::defining(1, 0, 0, 0),
-            Call::defining(1, 1, 0, 0),
-            Call::defining(2, 0, 0, 0),
-            Call::defining(3, 0, 1, 0),
-            Call::defining(4, 0, 1, 0),
-            Call::defining(5, 0, 0, 0),
-            Call::defining(6, 0, 1, 0),
-            Call::defining(7, 1, 0, 0),
-            Call::defining(8, 0, 0, 5),
-            Call::defining(9, 3, 0, 3),
-            Call::defining(10, 4, 0, 2),
-            Call::defining(11, 0, 0, 0),
-            Call::defining(12, 1, 0, 0),
-            Call::defining(13, 0, 1, 0),
-            Call::defining(14, 1, 0, 0),
-            Call::defining(15, 0, 0, 2),
-            Call::defining(16, 1, 0, 2),
-            Call::defining(17, 4, 0, 1),
+            beginning(6),
+            defining(1, 0, 0, 0),
+            defining(1, 1, 0, 0),
+            defining(2, 0, 0, 0),
+            defining(3, 0, 1, 0),
+            defining(4, 0, 1, 0),
+            defining(5, 0, 0, 0),
+            defining(6, 0, 1, 0),
+            defining(7, 1, 0, 0),
+            defining(8, 0, 0, 5),
+            defining(9, 3, 0, 3),
+            defining(10, 4, 0, 2),
+            defining(11, 0, 0, 0),
+            defining(12, 1, 0, 0),
+            defining(13, 0, 1, 0),
+            defining(14, 1, 0, 0),
+            defining(15, 0, 0, 2),
+            defining(16, 1, 0, 2),
+            defining(17, 4, 0, 1),
         ],
         &mut [unasked; 19],
     );
