@@ -7,7 +7,7 @@ pub returns-in-Ahead : goal.returns-in-Ahead
 returns-in-Ahead c =
     let k = c.args.k in
     let t = c.args.t in
-    let each : (k + 1) * c.guarded-cells.result ≡ suc k * 8 = ap (λ n. (k + 1) * n) c.guarded-cells.ensures.value ∙ omega arith in
+    let each : (k + 1) * c.guarded_cells.result ≡ suc k * 8 = ap (λ n. (k + 1) * n) c.guarded_cells.ensures.value ∙ omega arith in
     let all = ap (λ n. t * n) each in
     record {
       value = all ∙ sym (ap (extra_cells k t) c.in-Ahead.is);

@@ -9,7 +9,7 @@ returns c rows =
     let k = c.args.k in
     let row = c.args.row in
     let op = c.operator-operator.ensures in
-    let used = c.use-longest.ensures ∙ ap (use_longest k c.operator-operator.result.shape) c.use-of.ensures ∙ ap (λ o. use_longest k o.shape (use_of row)) op in
-    let more = c.extra-longest.ensures ∙ ap (λ t. extra_longest t c.operator-operator.result.extra) c.distance.ensures ∙ ap (λ o. extra_longest (distance row) o.extra) op in
-    let closed = c.closing-longest.ensures ∙ ap (closing_longest k) c.reach.ensures in
+    let used = c.use_longest.ensures ∙ ap (use_longest k c.operator-operator.result.shape) c.use_of.ensures ∙ ap (λ o. use_longest k o.shape (use_of row)) op in
+    let more = c.extra_longest.ensures ∙ ap (λ t. extra_longest t c.operator-operator.result.extra) c.distance.ensures ∙ ap (λ o. extra_longest (distance row) o.extra) op in
+    let closed = c.closing_longest.ensures ∙ ap (closing_longest k) c.reach.ensures in
     omega (arith, used, more, closed, sized.row_added_longest k rows row)

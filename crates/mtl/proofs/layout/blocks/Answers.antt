@@ -7,7 +7,7 @@ use Rattle.mtl.proofs.layout.blocks.Goals as goal
 pub loop-row-preserved : goal.loop-row-preserved
 loop-row-preserved c =
     let more = sizes_more c.args.k c.args.rows.now c.loop-row.row-index (Signal 0) c.loop-row-test.true in
-    (omega (arith, more, c.block-size-sum.ensures.value, c.loop-row.invariant.0), omega (arith, c.block-size-sum.ensures.small, c.loop-row.invariant.1))
+    (omega (arith, more, c.block_size-sum.ensures.value, c.loop-row.invariant.0), omega (arith, c.block_size-sum.ensures.small, c.loop-row.invariant.1))
 
 pub returns : goal.returns
 returns c =

@@ -3,5 +3,5 @@ use Rattle.mtl.specs.Layout.{rows_of}
 use Rattle.mtl.proofs.Places.{top_at}
 use Rattle.mtl.proofs.table.Table.highest.Goals as goal
 
-pub overflow-sub-result : goal.overflow-sub-result
-overflow-sub-result c = omega (arith, c.top.ensures.value, top_at c.args.k (rows_of c.args.self.now))
+pub overflow_sub-result : goal.overflow_sub-result
+overflow_sub-result c = omega (arith, c.top.ensures.value, top_at c.args.k (rows_of c.args.self.now))
