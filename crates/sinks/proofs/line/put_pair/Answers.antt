@@ -2,26 +2,26 @@ use Rattle.std.proofs.Common.{◌≡◌, ◌+◌, [], ◌∷◌, length, decimal
 use Rattle.sinks.proofs.Over.{over_next, pair_long, numeral_area, numeral_end}
 use Rattle.sinks.proofs.line.put_pair.Goals as goal
 
-pub put-number-blank-requires : goal.put-number-blank-requires
-put-number-blank-requires c = omega (arith, pair_long c.args.word.now c.args.first c.args.second)
+pub put_number-blank-requires : goal.put_number-blank-requires
+put_number-blank-requires c = omega (arith, pair_long c.args.word.now c.args.first c.args.second)
 
 pub put-next-requires : goal.put-next-requires
-put-next-requires c = omega (arith, pair_long c.args.word.now c.args.first c.args.second, numeral_end (omega arith) c.put-number-blank.ensures)
+put-next-requires c = omega (arith, pair_long c.args.word.now c.args.first c.args.second, numeral_end (omega arith) c.put_number-blank.ensures)
 
-pub put-number-feed-requires : goal.put-number-feed-requires
-put-number-feed-requires c = omega (arith, pair_long c.args.word.now c.args.first c.args.second, numeral_end (omega arith) c.put-number-blank.ensures)
+pub put_number-feed-requires : goal.put_number-feed-requires
+put_number-feed-requires c = omega (arith, pair_long c.args.word.now c.args.first c.args.second, numeral_end (omega arith) c.put_number-blank.ensures)
 
 pub put-requires : goal.put-requires
 put-requires c =
-    omega (arith, pair_long c.args.word.now c.args.first c.args.second, numeral_end (omega arith) c.put-number-blank.ensures, numeral_end (omega arith) c.put-number-feed.ensures)
+    omega (arith, pair_long c.args.word.now c.args.first c.args.second, numeral_end (omega arith) c.put_number-blank.ensures, numeral_end (omega arith) c.put_number-feed.ensures)
 
 pub returns : goal.returns
 returns c =
     let long = pair_long c.args.word.now c.args.first c.args.second in
-    let start = c.put-bytes-number.ensures in
-    let variables = c.put-number-blank.ensures in
+    let start = c.put_bytes-number.ensures in
+    let variables = c.put_number-blank.ensures in
     let blank = c.put-next.ensures in
-    let clauses = c.put-number-feed.ensures in
+    let clauses = c.put_number-feed.ensures in
     let first = numeral_end (omega arith) variables in
     let second = numeral_end (omega arith) clauses in
     record {
@@ -32,5 +32,5 @@ returns c =
       end = omega arith;
     }
 
-pub put-bytes-number-requires : goal.put-bytes-number-requires
-put-bytes-number-requires c = omega (arith, pair_long c.args.word.now c.args.first c.args.second)
+pub put_bytes-number-requires : goal.put_bytes-number-requires
+put_bytes-number-requires c = omega (arith, pair_long c.args.word.now c.args.first c.args.second)

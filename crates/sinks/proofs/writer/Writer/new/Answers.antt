@@ -2,9 +2,9 @@ use Rattle.std.proofs.Common.{refl, rules}
 use Rattle.sinks.specs.Lines.{read_from}
 use Rattle.sinks.proofs.writer.Writer.new.Goals as goal
 
-pub invariant-of-result : goal.invariant-of-result
+pub invariant_of-result : goal.invariant_of-result
 unfolding read_from
-invariant-of-result c = search rules
+invariant_of-result c = search rules
 
 pub returns : goal.returns
 unfolding read_from

@@ -7,8 +7,10 @@ use Rattle.sinks.proofs.writer.Writer.place.Goals as goal
 pub loop-i-init : goal.loop-i-init
 loop-i-init c = (sym (over_none c.args.self.now.area.now c.args.self.now.used), refl, refl, refl)
 
-pub invariant-of-self : goal.invariant-of-self
-invariant-of-self c = (written-kept c.loop-i.self.area.now c.loop-i.self.used c.loop-i.self.taken _ _ (omega (arith, c.loop-i.invariant.1)) c.loop-i.self.written, tt)
+pub invariant_of-self : goal.invariant_of-self
+invariant_of-self c = record {
+  written = written-kept c.loop-i.self.area.now c.loop-i.self.used c.loop-i.self.taken _ _ (omega (arith, c.loop-i.invariant.1)) c.loop-i.self.written;
+}
 
 pub loop-i-preserved : goal.loop-i-preserved
 loop-i-preserved c =

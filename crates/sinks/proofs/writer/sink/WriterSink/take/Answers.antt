@@ -6,48 +6,48 @@ use Rattle.sinks.proofs.Over.{length_over}
 use Rattle.sinks.proofs.Writing.{roomy, front_is, written_next, inside_next}
 use Rattle.sinks.proofs.writer.sink.WriterSink.take.Goals as goal
 
-pub put-line-n-requires : goal.put-line-n-requires
-put-line-n-requires c =
-    let r = roomy (length c.args.self.now.area.now) c.args.self.now.used _ c.args.clause.now c.free-cells-cells.ensures c.in-ok-examine.ensures in
+pub put_line-n-requires : goal.put_line-n-requires
+put_line-n-requires c =
+    let r = roomy (length c.args.self.now.area.now) c.args.self.now.used _ c.args.clause.now c.free_cells-cells.ensures c.in_ok-examine.ensures in
     omega arith
 
-pub slice-bounds-place-end : goal.slice-bounds-place-end
-slice-bounds-place-end c =
-    let r = roomy (length c.args.self.now.area.now) c.args.self.now.used _ c.args.clause.now c.free-cells-cells.ensures c.in-ok-examine.ensures in
+pub slice_bounds-place-end : goal.slice_bounds-place-end
+slice_bounds-place-end c =
+    let r = roomy (length c.args.self.now.area.now) c.args.self.now.used _ c.args.clause.now c.free_cells-cells.ensures c.in_ok-examine.ensures in
     search rules
 
 pub place-requires : goal.place-requires
 place-requires c =
-    let r = roomy (length c.args.self.now.area.now) c.args.self.now.used _ c.args.clause.now c.free-cells-cells.ensures c.in-ok-examine.ensures in
-    omega (arith, ap length (front_is _ _ _ _ c.put-line-n.ensures.area c.put-line-n.ensures.end))
+    let r = roomy (length c.args.self.now.area.now) c.args.self.now.used _ c.args.clause.now c.free_cells-cells.ensures c.in_ok-examine.ensures in
+    omega (arith, ap length (front_is _ _ _ _ c.put_line-n.ensures.area c.put_line-n.ensures.end))
 
-pub overflow-add-self : goal.overflow-add-self
-overflow-add-self c =
-    let r = roomy (length c.args.self.now.area.now) c.args.self.now.used _ c.args.clause.now c.free-cells-cells.ensures c.in-ok-examine.ensures in
+pub overflow_add-self : goal.overflow_add-self
+overflow_add-self c =
+    let r = roomy (length c.args.self.now.area.now) c.args.self.now.used _ c.args.clause.now c.free_cells-cells.ensures c.in_ok-examine.ensures in
     omega arith
 
-pub invariant-of-self : goal.invariant-of-self
-invariant-of-self c =
+pub invariant_of-self : goal.invariant_of-self
+invariant_of-self c =
     let s = c.args.self.now in
     let d = c.args.clause.now in
-    let r = roomy (length s.area.now) s.used _ d c.free-cells-cells.ensures c.in-ok-examine.ensures in
+    let r = roomy (length s.area.now) s.used _ d c.free_cells-cells.ensures c.in_ok-examine.ensures in
     let text : c.place.new.self.area.now ≡ over s.area.now s.used (line d) =
-    c.place.ensures.area ∙ ap (over s.area.now s.used) (front_is _ _ _ _ c.put-line-n.ensures.area c.put-line-n.ensures.end) in
-    let n : c.put-line-n.result ≡ 0 + length (line d) = c.put-line-n.ensures.end in
-    let P : ℕ → Type 0 = λ k. Written c.place.new.self.area.now (s.used + c.put-line-n.result) (k + 1) in
-    (subst P (sym c.place.ensures.taken) (written_next s.area.now _ s.used _ s.taken d s.written r.ranged text (omega arith) (omega arith) (omega arith)), tt)
+    c.place.ensures.area ∙ ap (over s.area.now s.used) (front_is _ _ _ _ c.put_line-n.ensures.area c.put_line-n.ensures.end) in
+    let n : c.put_line-n.result ≡ 0 + length (line d) = c.put_line-n.ensures.end in
+    let P : ℕ → Type 0 = λ k. Written c.place.new.self.area.now (s.used + c.put_line-n.result) (k + 1) in
+    record { written = subst P (sym c.place.ensures.taken) (written_next s.area.now _ s.used _ s.taken d s.written r.ranged text (omega arith) (omega arith) (omega arith)) }
 
 pub returns : goal.returns
 returns c =
     let s = c.args.self.now in
     let d = c.args.clause.now in
-    let r = roomy (length s.area.now) s.used _ d c.free-cells-cells.ensures c.in-ok-examine.ensures in
+    let r = roomy (length s.area.now) s.used _ d c.free_cells-cells.ensures c.in_ok-examine.ensures in
     let text : c.place.new.self.area.now ≡ over s.area.now s.used (line d) =
-    c.place.ensures.area ∙ ap (over s.area.now s.used) (front_is _ _ _ _ c.put-line-n.ensures.area c.put-line-n.ensures.end) in
-    let n : c.put-line-n.result ≡ 0 + length (line d) = c.put-line-n.ensures.end in
-    let used : s.used + c.put-line-n.result ≡ s.used + length (line d) = omega arith in
+    c.place.ensures.area ∙ ap (over s.area.now s.used) (front_is _ _ _ _ c.put_line-n.ensures.area c.put_line-n.ensures.end) in
+    let n : c.put_line-n.result ≡ 0 + length (line d) = c.put_line-n.ensures.end in
+    let used : s.used + c.put_line-n.result ≡ s.used + length (line d) = omega arith in
     record {
-      answer = c.in-ok-examine.ensures ∙ ap (λ k. verdict 40 9999 k d) c.free-cells-cells.ensures;
+      answer = c.in_ok-examine.ensures ∙ ap (λ k. verdict 40 9999 k d) c.free_cells-cells.ensures;
       refused = λ z. absurd (true≢false z);
       taken = λ _. record {
         meaning = λ α _. inside_next s.area.now _ s.used _ s.taken d s.written r.ranged text used α;
