@@ -21,6 +21,10 @@ each_cut f i n h =
 
 module _ {S : Type 0} (m : Reception S) where
   -- two lists one after another
+  -- clauses that are the same fit alike
+  pub fits_as : {s : S} {cs : Clauses} (ds : Clauses) → cs ≡ ds → m.fits s ds → m.fits s cs
+  fits_as ds same h = subst (m.fits _) (sym same) h
+
   pub first_fits : {s : S} {cs : Clauses} (a b : Clauses) → cs ≡ a ++ b → m.fits s cs → m.fits s a
   first_fits {s} a b e h = m.front s a b (subst (m.fits s) e h)
 

@@ -37,12 +37,12 @@ lent_drove m s t xs ys z d after tie =
     subst (λ u. Drove m s.now xs ys u z) (sym (tie (sym (drove_keeps (lent_model m) (λ x. x.ghost_name) (λ _ _ _ h. h.1) s t xs ys z d)))) (drove_view (lent_view m) s t xs ys z d)
 
 -- the same where the lent sink stands below a switch
-pub switched_drove : {S : Type 0} (m : Model S) (s t : Switch (MutBor S)) (xs ys : List Exchange) (z : State) → Drove (switch_model (lent_model m)) s xs ys t z → (after : S) → (s.below.ghost_name ≡ t.below.ghost_name → after ≡ now t.below) → Drove (switch_model m) (record { below = now s.below; variable = s.variable }) xs ys (record { below = after; variable = s.variable }) z
+pub switched_drove : {S : Type 0} (m : Model S) (s t : Switch (MutBor S)) (xs ys : List Exchange) (z : State) → Drove (switch_model (lent_model m)) s xs ys t z → (after : S) → (s.below.ghost_name ≡ t.below.ghost_name → after ≡ t.below.now) → Drove (switch_model m) (record { below = s.below.now; variable = s.variable }) xs ys (record { below = after; variable = s.variable }) z
 switched_drove m s t xs ys z d after tie =
     let same = drove_keeps (switch_model (lent_model m)) (λ u. u.below.ghost_name) (λ _ _ _ h. h.0.1) s t xs ys z d in
     let var = drove_keeps (switch_model (lent_model m)) (λ u. u.variable) (λ _ _ _ h. h.1) s t xs ys z d in
-    subst (λ u. Drove (switch_model m) (below_by now s) xs ys (record { below = u; variable = s.variable }) z) (sym (tie (sym same)))
-    (subst (λ n. Drove (switch_model m) (below_by now s) xs ys (record { below = now t.below; variable = n }) z) var (drove_view (switch_view (lent_view m)) s t xs ys z d))
+    subst (λ u. Drove (switch_model m) (below_by (λ x. x.now) s) xs ys (record { below = u; variable = s.variable }) z) (sym (tie (sym same)))
+    (subst (λ n. Drove (switch_model m) (below_by (λ x. x.now) s) xs ys (record { below = t.below.now; variable = n }) z) var (drove_view (switch_view (lent_view m)) s t xs ys z d))
 
 -- the same where it stands below two switches
 pub piled_drove : {S : Type 0} (m : Model S) (n : ℕ) (s t : Switch (MutBor S)) (xs ys : List Exchange) (z : State) → Drove (switch_model (switch_model (lent_model m))) (record { below = s; variable = n }) xs ys (record { below = t; variable = n }) z → (after : S) → (s.below.ghost_name ≡ t.below.ghost_name → after ≡ t.below.now) → Drove (switch_model (switch_model m)) (record { below = record { below = s.below.now; variable = s.variable }; variable = n }) xs ys (record { below = record { below = after; variable = s.variable }; variable = n }) z

@@ -5,13 +5,13 @@ use Rattle.answers.specs.Cap.{capped}
 use Rattle.answers.proofs.Capping.{tens-digit, tens_other}
 use Rattle.answers.proofs.numbers.read_digits.Goals as goal
 
-pub returns-then-not-is-digit : goal.returns-then-not-is-digit
-returns-then-not-is-digit c =
+pub returns-then-not-is_digit : goal.returns-then-not-is_digit
+returns-then-not-is_digit c =
     let t = c.args.digits.now in
     let i = c.loop-c.c-index in
     let n = c.loop-c.n in
     let h : i < length t = omega arith in
-    sym (c.loop-c.invariant.1 ∙ at_drop_more (λ l. capped (tens l n)) t i 0 h ∙ tens_other (get_or t i 0) (drop (i + 1) t) n (sym c.if-not-is-digit.ensures))
+    sym (c.loop-c.invariant.1 ∙ at_drop_more (λ l. capped (tens l n)) t i 0 h ∙ tens_other (get_or t i 0) (drop (i + 1) t) n (sym c.if-not-is_digit.ensures))
 
 pub loop-c-preserved : goal.loop-c-preserved
 loop-c-preserved c =
@@ -19,7 +19,7 @@ loop-c-preserved c =
     let i = c.loop-c.c-index in
     let n = c.loop-c.n in
     let h : i < length t = omega arith in
-    (omega arith, c.loop-c.invariant.1 ∙ at_drop_more (λ l. capped (tens l n)) t i 0 h ∙ tens-digit (get_or t i 0) (drop (i + 1) t) n c.min-n.result (sym c.if-not-is-digit.ensures) c.min-n.ensures)
+    (omega arith, c.loop-c.invariant.1 ∙ at_drop_more (λ l. capped (tens l n)) t i 0 h ∙ tens-digit (get_or t i 0) (drop (i + 1) t) n c.min-n.result (sym c.if-not-is_digit.ensures) c.min-n.ensures)
 
 pub returns : goal.returns
 returns c =

@@ -11,6 +11,6 @@ returns-in-45 c =
     let t = c.args.word.now in
     let h : 0 < length t = omega (arith, ltb-false) in
     let e : get_or t 0 0 ≡ 45 = omega (arith, eqb-true) in
-    c.read-negative.ensures
+    c.read_negative.ensures
     ∙ ap (λ l. short (minus (numeral l))) (take_rest t 1)
     ∙ ap short (sym (number-minus t h e))

@@ -9,7 +9,7 @@ returns c =
     let v = variables c.args.setup.now in
     let t = c.args.text.now in
     let before = c.args.area.now in
-    let told : c.read-for.result ≡ answer v t (length before) = search rules in
-    let filled : c.read-for.new.area ≡ area_after v c.read-for.result (model_of t) before = search rules in
-    let means = (answer_law v t (length before) c.read-for.result).0 (sym told) in
-    record { said = told; written = filled; meaning = means; satisfied = satisfied v t (length before) c.read-for.result before c.read-for.new.area means filled }
+    let told : c.read_for.result ≡ answer v t (length before) = search rules in
+    let filled : c.read_for.new.area ≡ area_after v c.read_for.result (model_of t) before = search rules in
+    let means = (answer_law v t (length before) c.read_for.result).0 (sym told) in
+    record { said = told; written = filled; meaning = means; satisfied = satisfied v t (length before) c.read_for.result before c.read_for.new.area means filled }

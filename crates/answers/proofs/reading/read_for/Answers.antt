@@ -13,8 +13,8 @@ returns-then-same c =
     let area = c.args.area.now in
     let b = begins_with t c.in-Some.first.now (kept (lines c.in-Some.rest.now)) Satisfiable c.in-Some.ensures.0 c.if-same.ensures in
     record {
-      said = c.read-values.ensures.said ∙ sym (answer_at v t (length area) (omega arith, omega arith) Satisfiable b);
-      written = c.read-values.ensures.written ∙ ap (λ o. area_after v c.read-values.result o area) (sym (model_at t Satisfiable b));
+      said = c.read_values.ensures.said ∙ sym (answer_at v t (length area) (omega arith, omega arith) Satisfiable b);
+      written = c.read_values.ensures.written ∙ ap (λ o. area_after v c.read_values.result o area) (sym (model_at t Satisfiable b));
     }
 
 pub returns-then-same-2 : goal.returns-then-same-2
@@ -25,8 +25,8 @@ returns-then-same-2 c =
     let ls = kept (lines c.in-Some.rest.now) in
     let b = begins_with t c.in-Some.first.now ls Unsatisfiable c.in-Some.ensures.0 c.if-same-2.ensures in
     record {
-      said = c.read-no-values.ensures v ∙ sym (answer_at v t (length area) (omega arith, omega arith) Unsatisfiable b);
-      written = sym (ap (λ r. area_after v r (model_of t) area) (c.read-no-values.ensures v) ∙ area_kept v ls (model_of t) area);
+      said = c.read_no_values.ensures v ∙ sym (answer_at v t (length area) (omega arith, omega arith) Unsatisfiable b);
+      written = sym (ap (λ r. area_after v r (model_of t) area) (c.read_no_values.ensures v) ∙ area_kept v ls (model_of t) area);
     }
 
 pub returns : goal.returns

@@ -3,14 +3,14 @@ use Rattle.encode.proofs.Claims.{any_cut}
 use Rattle.encode.proofs.Receive.{first_fits, next_fits, both_took}
 use Rattle.encode.proofs.emit.write_any.Goals as goal
 
-pub put-clause-requires : goal.put-clause-requires
-put-clause-requires g c =
+pub put_clause-requires : goal.put_clause-requires
+put_clause-requires g c =
     record { room = first_fits g.R.Receiver.reception _ _ (any_cut c.args.guard c.args.x c.opposite.result c.args.gs.now _ c.opposite.ensures c.opposites-flipped.ensures.items) c.requires.room; small = c.requires.small }
 
-pub put-pairs-requires : goal.put-pairs-requires
-put-pairs-requires g c =
-    next_fits g.R.Receiver.reception _ _ (any_cut c.args.guard c.args.x c.opposite.result c.args.gs.now _ c.opposite.ensures (c.as-slice.ensures ∙ c.opposites-flipped.ensures.items)) c.requires.room c.put-clause.ensures
+pub put_pairs-requires : goal.put_pairs-requires
+put_pairs-requires g c =
+    next_fits g.R.Receiver.reception _ _ (any_cut c.args.guard c.args.x c.opposite.result c.args.gs.now _ c.opposite.ensures (c.as_slice.ensures ∙ c.opposites-flipped.ensures.items)) c.requires.room c.put_clause.ensures
 
 pub returns : goal.returns
 returns g c =
-    both_took g.R.Receiver.reception _ _ (any_cut c.args.guard c.args.x c.opposite.result c.args.gs.now _ c.opposite.ensures (c.as-slice.ensures ∙ c.opposites-flipped.ensures.items)) c.put-clause.ensures c.put-pairs.ensures
+    both_took g.R.Receiver.reception _ _ (any_cut c.args.guard c.args.x c.opposite.result c.args.gs.now _ c.opposite.ensures (c.as_slice.ensures ∙ c.opposites-flipped.ensures.items)) c.put_clause.ensures c.put_pairs.ensures

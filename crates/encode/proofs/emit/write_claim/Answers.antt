@@ -2,24 +2,24 @@ use Rattle.std.proofs.Common.{sym, subst}
 use Rattle.encode.proofs.Claims.{held_few, any_held, all_held}
 use Rattle.encode.proofs.emit.write_claim.Goals as goal
 
-pub write-any-requires-in-Any : goal.write-any-requires-in-Any
-write-any-requires-in-Any g c =
+pub write_any-requires-in-Any : goal.write_any-requires-in-Any
+write_any-requires-in-Any g c =
     record {
-      room = subst (g.R.Receiver.reception.fits c.args.out.now) (any_held _ c.in-Any.gs c.as-slice.ensures c.args.guard c.args.claim c.in-Any.x c.in-Any.is) c.requires;
-      small = held_few _ c.in-Any.gs c.as-slice.ensures;
+      room = subst (g.R.Receiver.reception.fits c.args.out.now) (any_held _ c.in-Any.gs c.as_slice.ensures c.args.guard c.args.claim c.in-Any.x c.in-Any.is) c.requires;
+      small = held_few _ c.in-Any.gs c.as_slice.ensures;
     }
 
-pub write-all-requires-in-All : goal.write-all-requires-in-All
-write-all-requires-in-All g c =
+pub write_all-requires-in-All : goal.write_all-requires-in-All
+write_all-requires-in-All g c =
     record {
-      room = subst (g.R.Receiver.reception.fits c.args.out.now) (all_held _ c.in-All.gs c.as-slice-in-All.ensures c.args.guard c.args.claim c.in-All.x c.in-All.is) c.requires;
-      small = held_few _ c.in-All.gs c.as-slice-in-All.ensures;
+      room = subst (g.R.Receiver.reception.fits c.args.out.now) (all_held _ c.in-All.gs c.as_slice-in-All.ensures c.args.guard c.args.claim c.in-All.x c.in-All.is) c.requires;
+      small = held_few _ c.in-All.gs c.as_slice-in-All.ensures;
     }
 
 pub returns-in-Any : goal.returns-in-Any
 returns-in-Any g c =
-    subst (λ cs. g.R.Receiver.reception.took c.args.out.now cs c.write-any-in-Any.new.out) (sym (any_held _ c.in-Any.gs c.as-slice.ensures c.args.guard c.args.claim c.in-Any.x c.in-Any.is)) c.write-any-in-Any.ensures
+    subst (λ cs. g.R.Receiver.reception.took c.args.out.now cs c.write_any-in-Any.new.out) (sym (any_held _ c.in-Any.gs c.as_slice.ensures c.args.guard c.args.claim c.in-Any.x c.in-Any.is)) c.write_any-in-Any.ensures
 
 pub returns-in-All : goal.returns-in-All
 returns-in-All g c =
-    subst (λ cs. g.R.Receiver.reception.took c.args.out.now cs c.write-all-in-All.new.out) (sym (all_held _ c.in-All.gs c.as-slice-in-All.ensures c.args.guard c.args.claim c.in-All.x c.in-All.is)) c.write-all-in-All.ensures
+    subst (λ cs. g.R.Receiver.reception.took c.args.out.now cs c.write_all-in-All.new.out) (sym (all_held _ c.in-All.gs c.as_slice-in-All.ensures c.args.guard c.args.claim c.in-All.x c.in-All.is)) c.write_all-in-All.ensures

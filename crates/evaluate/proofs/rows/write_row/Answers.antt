@@ -19,10 +19,10 @@ loop-i-preserved c =
     let rows = c.args.rows.now in
     let h : l ≤ k = omega arith in
     let o = c.requires.1.1.0 in
-    let d : Decides c.value-at-v.result (Meant k l ls (line k c.loop-i.work) (row_at rows n) c.loop-i.i) = c.value-at-v.ensures in
-    let v = value_right k l h ls c.loop-i.work (older rows n) n c.loop-i.invariant.0 (row_at rows n) o c.loop-i.i (omega arith) c.value-at-v.result d in (
+    let d : Decides c.value_at-v.result (Meant k l ls (line k c.loop-i.work) (row_at rows n) c.loop-i.i) = c.value_at-v.ensures in
+    let v = value_right k l h ls c.loop-i.work (older rows n) n c.loop-i.invariant.0 (row_at rows n) o c.loop-i.i (omega arith) c.value_at-v.result d in (
       (λ m b i. let g = lasso_le k l h i in Decides-at (cell k c.put.new.work m (lasso k l i)) (cell k c.loop-i.work m (lasso k l i)) (c.put.ensures.others m (lasso k l i) g (λ e. absurd (omega arith))) (c.loop-i.invariant.0 m b i)),
-      λ i b. ⊎_elim (λ e. subst (λ j. Decides (cell k c.put.new.work n j) (Sat (word k l (has ls)) (form (formula (older rows n)) (row_at rows n)) j)) (sym e) (Decides-at (cell k c.put.new.work n c.loop-i.i) c.value-at-v.result c.put.ensures.here v))
+      λ i b. ⊎_elim (λ e. subst (λ j. Decides (cell k c.put.new.work n j) (Sat (word k l (has ls)) (form (formula (older rows n)) (row_at rows n)) j)) (sym e) (Decides-at (cell k c.put.new.work n c.loop-i.i) c.value_at-v.result c.put.ensures.here v))
           (λ g. ⊎_elim (λ a. Decides-at (cell k c.put.new.work n i) (cell k c.loop-i.work n i) (c.put.ensures.others n i (omega arith) (λ e f. absurd (omega arith))) (c.loop-i.invariant.1 i a)) (λ a. absurd (omega arith)) g)
           (cases_order i c.loop-i.i),
     )

@@ -12,10 +12,10 @@ loop-i-preserved c =
     let h : i < length bs = omega arith in
     let k : 2 * i + 1 < length c.loop-i.characters = omega (arith, c.loop-i.invariant.0) in (
       simp length-set c.loop-i.invariant.0,
-      take_two c.loop-i.characters i c.digit-of.result c.digit-of-in-loop-i.result k
-          ∙ ap (λ x. x ++ c.digit-of.result ∷ c.digit-of-in-loop-i.result ∷ []) c.loop-i.invariant.1
-          ∙ ap (λ x. spelled (take i bs) ++ x ∷ c.digit-of-in-loop-i.result ∷ []) c.digit-of.ensures
-          ∙ ap (λ x. spelled (take i bs) ++ digit (get_or bs i 0 / 16) ∷ x ∷ []) c.digit-of-in-loop-i.ensures
+      take_two c.loop-i.characters i c.digit_of.result c.digit_of-in-loop-i.result k
+          ∙ ap (λ x. x ++ c.digit_of.result ∷ c.digit_of-in-loop-i.result ∷ []) c.loop-i.invariant.1
+          ∙ ap (λ x. spelled (take i bs) ++ x ∷ c.digit_of-in-loop-i.result ∷ []) c.digit_of.ensures
+          ∙ ap (λ x. spelled (take i bs) ++ digit (get_or bs i 0 / 16) ∷ x ∷ []) c.digit_of-in-loop-i.ensures
           ∙ sym (spelled_push bs i h),
     )
 

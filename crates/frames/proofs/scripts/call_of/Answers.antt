@@ -8,14 +8,14 @@ use Rattle.frames.proofs.scripts.call_of.Goals as goal
 pub returns : goal.returns
 returns c =
     let line = c.args.line.now in
-    let r = c.call-in.result in
-    let v : r ≡ calling line = call_framed line (held c.in-ok-frame.frame) r c.call-in.ensures c.in-ok-frame.ensures in
+    let r = c.call_in.result in
+    let v : r ≡ calling line = call_framed line (held c.in_ok-frame.frame) r c.call_in.ensures c.in_ok-frame.ensures in
     record { value = v; back = call_made line r v }
 
-pub returns-in-err-frame : goal.returns-in-err-frame
-returns-in-err-frame c =
+pub returns-in_err-frame : goal.returns-in_err-frame
+returns-in_err-frame c =
     let line = c.args.line.now in
     let r = c.from-residual.result in
     let p = err_from_is_err_and r c.from-residual.ensures.1 in
-    let v : r ≡ calling line = call_refused line _ r (p.1 ∙ ap Err p.2) c.in-err-frame.ensures in
+    let v : r ≡ calling line = call_refused line _ r (p.1 ∙ ap Err p.2) c.in_err-frame.ensures in
     record { value = v; back = call_made line r v }

@@ -7,5 +7,5 @@ use Rattle.job.proofs.drive.drive_lent.Goals as goal
 pub returns : goal.returns
 returns g c =
     let m = g.S.Sink.model in
-    let told = lent_drove m _ c.perform-all.new.job.sink _ _ _ (drove (lent_model m) _ c.new-job.result c.perform-all.new.job _ _ c.new-job.ensures.sink c.new-job.ensures.fresh c.perform-all.ensures) in
+    let told = lent_drove m _ c.perform_all.new.job.sink _ _ _ (drove (lent_model m) _ c.new-job.result c.perform_all.new.job _ _ c.new-job.ensures.sink c.new-job.ensures.fresh c.perform_all.ensures) in
     told _ (search rules)

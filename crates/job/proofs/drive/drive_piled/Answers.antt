@@ -4,5 +4,5 @@ use Rattle.job.proofs.drive.drive_piled.Goals as goal
 
 pub returns : goal.returns
 returns g c =
-    let told = piled_drove g.S.Sink.model c.args.second _ c.drive-switched.new.sink _ _ _ c.drive-switched.ensures in
+    let told = piled_drove g.S.Sink.model c.args.second _ c.drive_switched.new.sink _ _ _ c.drive_switched.ensures in
     told _ (search rules)

@@ -4,5 +4,5 @@ use Rattle.job.proofs.handing.hand_begin.Goals as goal
 
 pub returns : goal.returns
 returns g c =
-    let told = lent_told g.S.Sink.model _ _ c.write-begin.new.out.sink c.write-begin.ensures in
+    let told = lent_told g.S.Sink.model _ _ c.write_begin.new.out.sink c.write_begin.ensures in
     told _ (search rules)

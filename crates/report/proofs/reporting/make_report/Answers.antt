@@ -6,6 +6,6 @@ returns c = record {
   reported = c.report-outcome.ensures;
   bytes = c.tell-bytes.ensures.area;
   size = c.tell-bytes.ensures.end;
-  refused = c.is-refused.ensures;
+  refused = c.is_refused.ensures;
   fits = c.tell-bytes.ensures.fits;
 }

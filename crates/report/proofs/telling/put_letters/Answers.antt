@@ -13,7 +13,7 @@ pub loop-i-preserved : goal.loop-i-preserved
 loop-i-preserved c =
     let xs = c.args.letters.now in
     let i = c.loop-i.i in
-    let put = c.put-letter-next.ensures in (
+    let put = c.put_letter-next.ensures in (
       over_next c.args.output.now _ _ c.args.at c.loop-i.next (letter_lines 0 (take i xs)) _ (omega arith) c.loop-i.invariant.0 (omega (arith, c.loop-i.invariant.1, lines_long 0 (take i xs), length-take-le i xs (omega arith))) put.area
           ∙ ap (over c.args.output.now c.args.at) (sym (lines_more xs i c.loop-i-test.true)),
       omega (arith, c.loop-i.invariant.1, put.end),

@@ -3,17 +3,17 @@ use Rattle.sinks.proofs.Over.{over_next, numeral_area, numeral_end}
 use Rattle.report.proofs.Lengths.{out_long}
 use Rattle.report.proofs.telling.put_out.Goals as goal
 
-pub put-number-feed-requires : goal.put-number-feed-requires
-put-number-feed-requires c = omega (arith, out_long c.args.clause)
+pub put_number-feed-requires : goal.put_number-feed-requires
+put_number-feed-requires c = omega (arith, out_long c.args.clause)
 
 pub put-requires : goal.put-requires
-put-requires c = omega (arith, out_long c.args.clause, numeral_end (omega arith) c.put-number-feed.ensures)
+put-requires c = omega (arith, out_long c.args.clause, numeral_end (omega arith) c.put_number-feed.ensures)
 
 pub returns : goal.returns
 returns c =
     let long = out_long c.args.clause in
-    let word = c.put-bytes-number.ensures in
-    let number = c.put-number-feed.ensures in
+    let word = c.put_bytes-number.ensures in
+    let number = c.put_number-feed.ensures in
     let end = numeral_end (omega arith) number in
     record {
       area = over_next c.args.output.now _ _ 0 _ (codes "NOT IN ") _ (omega arith) word.area word.end

@@ -8,8 +8,8 @@ pub returns : goal.returns
 returns g c =
     let m = g.S.Sink.model in
     let text = c.args.script.now in
-    let r = c.perform-script-result.result in
-    let job = c.perform-script-result.new.job in
-    let drove = drove_script m c.args.sink c.new-job.result job text r c.new-job.ensures.sink c.new-job.ensures.fresh c.perform-script-result.ensures in
-    subst (λ s. DroveScript m c.args.sink text r s (state_of c.setup-setup.result.now)) (sym c.into-sink.ensures)
+    let r = c.perform_script-result.result in
+    let job = c.perform_script-result.new.job in
+    let drove = drove_script m c.args.sink c.new-job.result job text r c.new-job.ensures.sink c.new-job.ensures.fresh c.perform_script-result.ensures in
+    subst (λ s. DroveScript m c.args.sink text r s (state_of c.setup-setup.result.now)) (sym c.into_sink.ensures)
     (subst (λ x. DroveScript m c.args.sink text r job.sink (state_of x)) (sym c.setup-setup.ensures) drove)

@@ -10,14 +10,14 @@ use Rattle.witness.specs.Areas.{Block, Laid}
 use Rattle.witness.proofs.Laying.{laid_like, top_more, top_to}
 use Rattle.witness.proofs.area.write_area.Goals as goal
 
-pub write-part-requires : goal.write-part-requires
-write-part-requires c = let t = top_least c.args.k (reverse c.args.rows.now) in ((omega arith, (omega arith, (omega arith, (omega arith, tt)))), (omega arith, (omega arith, omega arith)))
+pub write_part-requires : goal.write_part-requires
+write_part-requires c = let t = top_least c.args.k (reverse c.args.rows.now) in ((omega arith, (omega arith, (omega arith, (omega arith, tt)))), (omega arith, (omega arith, omega arith)))
 
-pub write-part-requires-2 : goal.write-part-requires-2
-write-part-requires-2 c = let t = top_least c.args.k (reverse c.args.rows.now) in ((omega arith, (omega arith, (omega arith, (omega arith, tt)))), (omega arith, (omega arith, omega arith)))
+pub write_part-requires-2 : goal.write_part-requires-2
+write_part-requires-2 c = let t = top_least c.args.k (reverse c.args.rows.now) in ((omega arith, (omega arith, (omega arith, (omega arith, tt)))), (omega arith, (omega arith, omega arith)))
 
-pub write-block-at-requires : goal.write-block-at-requires
-write-block-at-requires c =
+pub write_block-at-requires : goal.write_block-at-requires
+write_block-at-requires c =
     let k = c.args.k in let n = c.loop-n.n in let rows = c.args.rows.now in
     let p : n + 1 ≤ length rows = omega arith in
     let q = mul-le-mul_right (k + 1) p in
@@ -33,10 +33,10 @@ loop-n-preserved c =
     let m = top_more k rows n (omega arith) in
     let z = older-length rows n (omega arith) in
     let w : c.loop-n.at ≡ top k (older rows n) - 1 = omega arith in
-    let e = c.write-block-at.ensures.end in
+    let e = c.write_block-at.ensures.end in
     let old = c.loop-n.area in
-    let new = c.write-block-at.new.area in
-    let wrote = c.write-block-at.ensures in (
+    let new = c.write_block-at.new.area in
+    let wrote = c.write_block-at.ensures in (
       omega arith,
       subst (λ (rs : List Row). Laid k l work new rs) (sym (older_more rows n (omega arith))) (
         laid_like old new k l work (older rows n) (λ j d. wrote.below j (omega arith)) c.loop-n.invariant.1,
@@ -56,5 +56,5 @@ returns c =
     record {
       laid = subst (λ (rs : List Row). Laid k l c.args.work.now c.loop-n.area rs) e c.loop-n.invariant.1;
       bits = λ j d b. c.loop-n.invariant.2 j d (omega arith);
-      rest = λ j b. c.loop-n.invariant.3 j (omega arith) ∙ c.write-part-2.ensures.above j (omega arith) ∙ c.write-part.ensures.above j (omega arith);
+      rest = λ j b. c.loop-n.invariant.3 j (omega arith) ∙ c.write_part-2.ensures.above j (omega arith) ∙ c.write_part.ensures.above j (omega arith);
     }

@@ -12,7 +12,7 @@ loop-i-preserved c =
     let said = Said c.args.k c.args.l (line c.args.k c.args.work.now) c.args.part in
     let m = c.mark.ensures in (
       (λ j b.
-          ⊎_elim (λ e. subst (λ n. Decides (bit new (at + n)) (said n)) (sym e) (Decides-at (bit new (at + i)) c.truth-at-v.result m.here c.truth-at-v.ensures))
+          ⊎_elim (λ e. subst (λ n. Decides (bit new (at + n)) (said n)) (sym e) (Decides-at (bit new (at + i)) c.truth_at-v.result m.here c.truth_at-v.ensures))
           (λ g. ⊎_elim (λ a. Decides-at (bit new (at + j)) (bit old (at + j)) (ap (λ z. eqb z 1) (m.below (at + j) (omega arith))) (c.loop-i.invariant.0 j a)) (λ a. absurd (omega arith)) g)
           (cases_order j i)),
       (λ j a b.

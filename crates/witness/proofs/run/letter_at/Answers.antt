@@ -8,15 +8,15 @@ use Rattle.witness.proofs.run.letter_at.Goals.{then_shown_at, else_shown_at}
 
 pub loop-a-preserved : goal.loop-a-preserved
 loop-a-preserved c =
-    digit_more c.loop-a.letter c.if-shown-at.digit (λ b. shown c.args.k (assigned c.args.area.now) (rows_of c.args.table.now) c.args.i b) small
-    (c.loop-a.a - 1) c.loop-a.a (omega arith) (omega arith) (is ∙ c.shown-at.ensures) c.loop-a.invariant.0 c.loop-a.invariant.1
+    digit_more c.loop-a.letter c.if-shown_at.digit (λ b. shown c.args.k (assigned c.args.area.now) (rows_of c.args.table.now) c.args.i b) small
+    (c.loop-a.a - 1) c.loop-a.a (omega arith) (omega arith) (is ∙ c.shown_at.ensures) c.loop-a.invariant.0 c.loop-a.invariant.1
   where
-    small : c.if-shown-at.digit < 2
-    small = elim c.if-shown-at.branch [ then_shown_at w ↦ omega (arith, w.digit-is) | else_shown_at w ↦ omega (arith, w.digit-is) ]
+    small : c.if-shown_at.digit < 2
+    small = elim c.if-shown_at.branch [ then_shown_at w ↦ omega (arith, w.digit-is) | else_shown_at w ↦ omega (arith, w.digit-is) ]
 
-    is : eqb c.if-shown-at.digit 1 ≡ c.shown-at.result
+    is : eqb c.if-shown_at.digit 1 ≡ c.shown_at.result
     is =
-        elim c.if-shown-at.branch [
-          | then_shown_at w ↦ ap (λ x. eqb x 1) w.digit-is ∙ sym w.if-shown-at.true
-          | else_shown_at w ↦ ap (λ x. eqb x 1) w.digit-is ∙ sym w.if-shown-at.false
+        elim c.if-shown_at.branch [
+          | then_shown_at w ↦ ap (λ x. eqb x 1) w.digit-is ∙ sym w.if-shown_at.true
+          | else_shown_at w ↦ ap (λ x. eqb x 1) w.digit-is ∙ sym w.if-shown_at.false
         ]

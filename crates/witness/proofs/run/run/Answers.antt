@@ -8,8 +8,8 @@ use Rattle.witness.proofs.Filling.{highest_begun}
 use Rattle.witness.proofs.Coming.{passed_run, is_run, refused_out}
 use Rattle.witness.proofs.run.run.Goals as goal
 
-pub write-letters-requires : goal.write-letters-requires
-write-letters-requires c =
+pub write_letters-requires : goal.write_letters-requires
+write_letters-requires c =
     let s = state_of c.args.setup.now in
     let p = passed_run s c.args.area.now (length c.args.letters.now) c.in-Ok.l c.in-Ok.ensures in
     let k = c.bound.ensures.value in
@@ -18,11 +18,11 @@ write-letters-requires c =
 
 pub returns-in-Ok : goal.returns-in-Ok
 returns-in-Ok c =
-    let s = state_of c.args.setup.now in let area = c.args.area.now in let letters = c.write-letters.new.letters in
+    let s = state_of c.args.setup.now in let area = c.args.area.now in let letters = c.write_letters.new.letters in
     let p = passed_run s area (length c.args.letters.now) c.in-Ok.l c.in-Ok.ensures in
     let w : LettersShown s.bound (assigned area) s.rows letters =
     subst (λ (k : ℕ). LettersShown k (assigned area) s.rows letters) c.bound.ensures.value
-    (subst (λ (rs : List Row). LettersShown c.bound.result (assigned area) rs letters) c.table.ensures c.write-letters.ensures) in
+    (subst (λ (rs : List Row). LettersShown c.bound.result (assigned area) rs letters) c.table.ensures c.write_letters.ensures) in
     record {
       answer = c.in-Ok.ensures;
       wrote = w;

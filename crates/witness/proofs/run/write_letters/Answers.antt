@@ -7,5 +7,5 @@ use Rattle.witness.proofs.run.write_letters.Goals as goal
 
 pub loop-i-preserved : goal.loop-i-preserved
 loop-i-preserved c =
-    set_more c.loop-i.letters c.loop-i.i c.letter-at.result (shown c.args.k (assigned c.args.area.now) (rows_of c.args.table.now))
-    (omega arith) c.letter-at.ensures c.loop-i.invariant
+    set_more c.loop-i.letters c.loop-i.i c.letter_at.result (shown c.args.k (assigned c.args.area.now) (rows_of c.args.table.now))
+    (omega arith) c.letter_at.ensures c.loop-i.invariant

@@ -14,7 +14,7 @@ returns-then-variable-highest c x like ms h =
             | then_variable_highest_via_then_variable_highest w ↦ inl (omega (arith, like.1, w.if-variable-highest.true))
             | then_variable_highest_via_else_variable_highest+then_is_some w ↦
                 let same : c.args.n.variable ≡ x.variable = omega (arith, like.1, w.if-variable-highest.false) in
-                inr (omega (arith, w.if-variable-highest.false), omega arith, ap (λ j. is_some (get_or vs (j - 1) None)) (sym same) ∙ sym w.if-is-some.ensures)
+                inr (omega (arith, w.if-variable-highest.false), omega arith, ap (λ j. is_some (get_or vs (j - 1) None)) (sym same) ∙ sym w.if-is_some.ensures)
           ]),
       resume-kept _ c.if-self.false ms x (λ z. c.if-variable-eq0.false (omega (arith, like.1, z))),
     )
@@ -27,6 +27,6 @@ returns c x like ms h =
       subst (λ l. Holds c.args.highest l c.args.self.now.strange (ms ++ x ∷ []))
           (ap (λ j. set vs (j - 1) (Some x.positive)) (sym same) ∙ ap (λ b. set vs (c.args.n.variable - 1) (Some b)) (sym like.0))
           (holds_more c.args.highest _ _ ms x h c.requires (omega arith) (omega arith)
-          (ap (λ j. is_some (get_or vs (j - 1) None)) (sym same) ∙ sym c.if-is-some.ensures)),
+          (ap (λ j. is_some (get_or vs (j - 1) None)) (sym same) ∙ sym c.if-is_some.ensures)),
       resume-kept _ c.if-self.false ms x (λ z. c.if-variable-eq0.false (omega (arith, like.1, z))),
     )

@@ -13,8 +13,8 @@ use Rattle.job.proofs.job.Job.add_row.Goals as goal
 pub place-place-requires : goal.place-place-requires
 place-place-requires g c = record { begun = c.requires.begun; near = near_row (known c.args.self.now) c.args.row c.requires.fit }
 
-pub hand-row-requires : goal.hand-row-requires
-hand-row-requires g c =
+pub hand_row-requires : goal.hand_row-requires
+hand_row-requires g c =
     let m = g.S.Sink.model in
     let j = c.args.self.now in
     let s = known j in
@@ -23,7 +23,7 @@ hand-row-requires g c =
     let is = placed_is s r c.place-place.result p in
     let takes = subst (λ n. Takes n (define_list s r)) (sym p.highest) (row_takes s r c.requires.begun c.requires.fit) in
     record {
-      room = subst (λ cs. Fits m cs j.sink) (sym is) (limits_fit m j.sink (define_list s r) c.cost-of-cost.result c.place-place.result.highest c.cost-of-cost.ensures c.in-default.ensures takes);
+      room = subst (λ cs. Fits m cs j.sink) (sym is) (limits_fit m j.sink (define_list s r) c.cost_of-cost.result c.place-place.result.highest c.cost_of-cost.ensures c.in_default.ensures takes);
       small = (p.low, p.small_a, p.small_b, p.small_x);
       near = near_row s r c.requires.fit;
     }
@@ -32,7 +32,7 @@ pub returns-in-Err : goal.returns-in-Err
 returns-in-Err g c =
     let j = c.args.self.now in
     let s = known j in
-    not_finished g.S.Sink.model j (define_list s c.args.row) (with_row s c.args.row) _ c.cost-of-cost.result c.place-place.result.highest c.cost-of-cost.ensures c.place-place.ensures.highest c.in-Err.refusal c.in-Err.ensures
+    not_finished g.S.Sink.model j (define_list s c.args.row) (with_row s c.args.row) _ c.cost_of-cost.result c.place-place.result.highest c.cost_of-cost.ensures c.place-place.ensures.highest c.in-Err.refusal c.in-Err.ensures
 
 pub returns : goal.returns
 returns g c =
@@ -40,7 +40,7 @@ returns g c =
     let j = c.args.self.now in
     let s = known j in
     let r = c.args.row in
-    let k : Job _ = record { sink = c.hand-row.new.sink; setup = c.add.new.self } in
-    let taken = subst (λ cs. TakenAll m cs j.sink c.hand-row.new.sink) (placed_is s r c.place-place.result c.place-place.ensures) c.hand-row.ensures in
+    let k : Job _ = record { sink = c.hand_row.new.sink; setup = c.add.new.self } in
+    let taken = subst (λ cs. TakenAll m cs j.sink c.hand_row.new.sink) (placed_is s r c.place-place.result c.place-place.ensures) c.hand_row.ensures in
     subst (λ n. Finishing m j (define_list s r) (with_row s r) (reply.Row (length s.rows)) (Ok (reply.Row n)) k) (sym c.rows-number.ensures)
-    (finished m j (define_list s r) (with_row s r) (reply.Row (length s.rows)) c.cost-of-cost.result c.place-place.result.highest c.cost-of-cost.ensures c.place-place.ensures.highest k c.in-default.ensures c.add.ensures taken)
+    (finished m j (define_list s r) (with_row s r) (reply.Row (length s.rows)) c.cost_of-cost.result c.place-place.result.highest c.cost_of-cost.ensures c.place-place.ensures.highest k c.in_default.ensures c.add.ensures taken)

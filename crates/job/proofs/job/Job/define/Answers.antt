@@ -17,9 +17,9 @@ fresh_row g c =
     let yes = all_yes (define_asks s c.args.code c.args.a c.args.b c.args.t) _ _ (sym c.in-Ok.ensures) in
     subst (λ r. FreshRow s r) yes.0 (define_yes s c.args.code c.args.a c.args.b c.args.t yes.1)
 
-pub add-row-requires : goal.add-row-requires
-add-row-requires g c =
-    let f = fresh_row g (goal.at.add-row-requires g c).In-Ok in
+pub add_row-requires : goal.add_row-requires
+add_row-requires g c =
+    let f = fresh_row g (goal.at.add_row-requires g c).In-Ok in
     record { begun = f.begun; room = f.room; fit = f.fit }
 
 pub returns-in-Err : goal.returns-in-Err
@@ -31,4 +31,4 @@ returns-in-Ok g c =
     let m = g.S.Sink.model in
     let j = c.args.self.now in
     step_goes_on m j (Define c.args.code c.args.a c.args.b c.args.t) _ _ _ _ c.in-Ok.ensures
-    (subst (λ r. Adding m j r c.add-row.result c.add-row.new.self) (sym (row_is g (goal.at.returns-in-Ok g c).In-Ok)) c.add-row.ensures)
+    (subst (λ r. Adding m j r c.add_row.result c.add_row.new.self) (sym (row_is g (goal.at.returns-in-Ok g c).In-Ok)) c.add_row.ensures)

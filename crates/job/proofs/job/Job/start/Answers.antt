@@ -8,22 +8,22 @@ use Rattle.job.proofs.Placing.{begin_takes}
 use Rattle.job.proofs.Finishing.{finished, not_finished}
 use Rattle.job.proofs.job.Job.start.Goals as goal
 
-pub hand-begin-requires : goal.hand-begin-requires
-hand-begin-requires g c =
+pub hand_begin-requires : goal.hand_begin-requires
+hand_begin-requires g c =
     let m = g.S.Sink.model in
     let j = c.args.self.now in
-    let takes = subst (λ n. Takes n (begin c.args.k)) (sym c.highest-at.ensures) (begin_takes (known j) c.args.k) in
+    let takes = subst (λ n. Takes n (begin c.args.k)) (sym c.highest_at.ensures) (begin_takes (known j) c.args.k) in
     record {
-      room = limits_fit m j.sink (begin c.args.k) c.of-begin-cost.result c.highest-at.result c.of-begin-cost.ensures c.in-default.ensures takes;
+      room = limits_fit m j.sink (begin c.args.k) c.of_begin-cost.result c.highest_at.result c.of_begin-cost.ensures c.in_default.ensures takes;
       low = c.requires;
     }
 
 pub returns-in-Err : goal.returns-in-Err
 returns-in-Err g c =
     let j = c.args.self.now in
-    not_finished g.S.Sink.model j (begin c.args.k) (with_bound (known j) c.args.k) _ c.of-begin-cost.result c.highest-at.result c.of-begin-cost.ensures c.highest-at.ensures c.in-Err.refusal c.in-Err.ensures
+    not_finished g.S.Sink.model j (begin c.args.k) (with_bound (known j) c.args.k) _ c.of_begin-cost.result c.highest_at.result c.of_begin-cost.ensures c.highest_at.ensures c.in-Err.refusal c.in-Err.ensures
 
 pub returns : goal.returns
 returns g c =
     let j = c.args.self.now in
-    finished g.S.Sink.model j (begin c.args.k) (with_bound (known j) c.args.k) _ c.of-begin-cost.result c.highest-at.result c.of-begin-cost.ensures c.highest-at.ensures _ c.in-default.ensures c.open.ensures c.hand-begin.ensures
+    finished g.S.Sink.model j (begin c.args.k) (with_bound (known j) c.args.k) _ c.of_begin-cost.result c.highest_at.result c.of_begin-cost.ensures c.highest_at.ensures _ c.in_default.ensures c.open.ensures c.hand_begin.ensures
