@@ -33,7 +33,7 @@ closed-written (n ∷ m ∷ ns) h =
 reads : (ls : List (List ℕ)) (lits : List Literal) → Written ls lits → literals ls ≡ Some lits
 reads ls lits w =
     let p : All Proper (flat w.groups) = subst (All Proper) (sym w.together) (All-append Proper lits (nought ∷ []) (All-weaker (λ n. 0 < n.variable) Proper (λ n h e. h) lits w.no_zero) ((λ e. absurd (both_ways true e refl)), tt)) in
-    ap literals w.each_line ∙ ap close (numbers-written w.groups w.each-some p ∙ ap Some w.together) ∙ closed-written lits w.no_zero
+    ap literals w.each_line ∙ ap close (numbers-written w.groups w.each_some p ∙ ap Some w.together) ∙ closed-written lits w.no_zero
 
 -- the groups of lines that are read
 record Groups (ls : List (List ℕ)) (ns : List Literal) : Type 0 where

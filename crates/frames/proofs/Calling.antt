@@ -11,7 +11,7 @@ use Rattle.frames.specs.Lines.{framed, mapped, kind_asks, reading}
 use Rattle.frames.specs.Script.{in_script, by_kind, call_asks, call_in, calling, written_call}
 use Rattle.frames.specs.Written.{written}
 use Rattle.frames.proofs.Framing.{after, after-bytes, asked_framed, asked_refused}
-use Rattle.frames.specs.Lawfulness.{begin-lawful, define_lawful, require_lawful}
+use Rattle.frames.specs.Lawfulness.{begin_lawful, define_lawful, require_lawful}
 use Rattle.frames.proofs.Sealing.{read_as, back_at}
 
 -- the call in the bytes of a frame, by questions 3 and 4
@@ -34,7 +34,7 @@ pub record Scripted {R : Type 0} (k : Layout R) (call : R → Call) : Type 0 whe
   pub line : (x : R) → written_call (call x) ≡ written k x
 
 pub begin_scripted : Scripted begin_layout Begin
-begin_scripted = record { lawful = begin-lawful; known = refl; sized = refl; gives = λ bs. refl; line = λ x. refl }
+begin_scripted = record { lawful = begin_lawful; known = refl; sized = refl; gives = λ bs. refl; line = λ x. refl }
 
 pub define_scripted : Scripted define_layout Define
 define_scripted = record { lawful = define_lawful; known = refl; sized = refl; gives = λ bs. refl; line = λ x. refl }

@@ -1,3 +1,4 @@
 pub mod Framing
 pub mod Sealing
 pub mod Calling
+pub mod Spelling

@@ -8,10 +8,11 @@ use Rattle.frames.specs.declared.refusals.Refusal.{Refusal}
 use Rattle.frames.specs.declared.refusals.Refusal.TheVariants.{Kind, Length}
 use Rattle.frames.specs.Hex.{Bytes}
 use Rattle.frames.specs.Layouts.{Layout, Lawful}
+use Rattle.frames.specs.Lawfulness.{byte_at}
 use Rattle.frames.specs.Lines.{frame_length, framed, kind_asks, reading}
 use Rattle.frames.specs.Written.{spelled, sealed, check, written}
 use Rattle.frames.proofs.Framing.{framed-closed, framed_ok, after, after-bytes, asked_framed, asked_refused}
-use Rattle.frames.specs.Spelling.{bytes-spelled, spelled-bytes, byte_at}
+use Rattle.frames.proofs.Spelling.{bytes-spelled, spelled-bytes}
 
 -- a byte more
 bytes_push : (bs : List ℕ) (b : ℕ) → Bytes bs → b < 256 → Bytes (bs ++ b ∷ [])
@@ -79,7 +80,7 @@ module _ {R : Type 0} (k : Layout R) (law : Lawful k) where
   pub back_at : (line bs : List ℕ) → framed line ≡ Ok bs → IfOk (read_as k bs) (λ x. written k x ≡ line)
   back_at line bs f = pick (eqb (get_or bs 0 0) k.code) (eqb (length bs) k.size) refl refl
     where
-      pick : (a b : Bool) → eqb (get_or bs 0 0) k.code ≡ a → eqb (length bs) k.size ≡ b → IfOk {Y = Refusal} (cond a (cond b (Ok (k.fields bs)) (Err Length)) (Err Kind)) (λ x. written k x ≡ line)
+      pick : (a b : Bool) → eqb (get_or bs 0 0) k.code ≡ a → eqb (length bs) k.size ≡ b → IfOk {E = Refusal} (cond a (cond b (Ok (k.fields bs)) (Err Length)) (Err Kind)) (λ x. written k x ≡ line)
       pick true true p q = same_line line bs f (eqb-true (get_or bs 0 0) k.code p) (eqb-true (length bs) k.size q)
       pick true false p q = tt
       pick false b p q = tt

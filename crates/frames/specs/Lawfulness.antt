@@ -1,12 +1,34 @@
 -- In each kind the record and its bytes give each other.
-use Rattle.std.specs.Prelude.{◌≡◌, ℕ, ◌+◌, ◌*◌, ◌/◌, ◌%◌, ◌^◌, ◌<◌, List, [], ◌∷◌, ◌++◌, length, slice_index, slice_index_or, refl}
-use Rattle.std.proofs.Common.{ap, arith, lit<, lit≤}
+use Rattle.std.specs.Prelude.{◌≡◌, ℕ, zero, suc, ◌+◌, ◌*◌, ◌/◌, ◌%◌, ◌^◌, ◌<◌, List, [], ◌∷◌, ◌++◌, length, drop, slice_index, slice_index_or, refl}
+use Rattle.std.proofs.Common.{ap, ◌∙◌, arith, lit<, lit≤}
+use Rattle.std.proofs.lemmas.List.{drop_more, drop_all}
 use Rattle.frames.specs.Hex.{Bytes}
 use Rattle.frames.specs.Layouts.{Lawful, begin_layout, define_layout, require_layout, run_layout, letter_layout}
-use Rattle.frames.specs.Spelling.{listing, byte_at}
 
-pub begin-lawful : Lawful begin_layout
-begin-lawful = record {
+-- the elements of a list from place i on, n of them
+abbrev pub places : ℕ → ℕ → List ℕ → List ℕ
+places zero i bs = []
+places (suc n) i bs = slice_index bs i ∷ places n (suc i) bs
+
+places-drop : (n i : ℕ) (bs : List ℕ) → length bs ≡ i + n → drop i bs ≡ places n i bs
+places-drop zero i bs e = drop_all i bs (omega arith)
+places-drop (suc n) i bs e =
+    let h : i < length bs = omega arith in
+    let s : i + 1 ≡ suc i = omega arith in
+    drop_more bs i 0 h ∙ ap (λ k. slice_index bs i ∷ drop k bs) s ∙ ap (λ l. slice_index bs i ∷ l) (places-drop n (suc i) bs (omega arith))
+
+-- a list of a known length, written out
+pub listing : (n : ℕ) (bs : List ℕ) → length bs ≡ n → bs ≡ places n 0 bs
+listing n bs e = places-drop n 0 bs (omega arith)
+
+pub byte_at : (bs : List ℕ) (k : ℕ) → Bytes bs → slice_index bs k < 256
+byte_at [] k h = lit< tt
+byte_at (b ∷ bs) zero h = h.0
+byte_at (b ∷ bs) (suc k) h = byte_at bs k h.1
+
+-- the laws of each kind
+pub begin_lawful : Lawful begin_layout
+begin_lawful = record {
   least = lit≤ tt;
   most = lit≤ tt;
   code_fits = lit< tt;

@@ -7,4 +7,3 @@ pub mod Written
 pub mod Script
 pub mod Cases
 pub mod Lawfulness
-pub mod Spelling

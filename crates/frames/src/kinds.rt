@@ -1,7 +1,7 @@
 // The kinds of frames: each has its code byte, its length and its record.
 ghost use Rattle.std.specs.Prelude.{◌≡◌, ◌-◌, ◌∷◌, ◌++◌, replicate};
 ghost use Rattle.frames.specs.Layouts.{Layout, Lawful, apart, begin_layout, define_layout, require_layout, run_layout, letter_layout};
-ghost use Rattle.frames.specs.Lawfulness.{begin-lawful, define_lawful, require_lawful, run_lawful, letter_lawful};
+ghost use Rattle.frames.specs.Lawfulness.{begin_lawful, define_lawful, require_lawful, run_lawful, letter_lawful};
 
 use crate::records::{Begin, Define, Letter, Require, Run};
 
@@ -58,7 +58,7 @@ impl Kind for BeginKind {
 
     ghost layout = { begin_layout };
 
-    ghost lawful = { begin-lawful };
+    ghost lawful = { begin_lawful };
 
     fn code_byte() -> u8 {
         Self::CODE

@@ -47,19 +47,19 @@ fn script_lines(rt: HostRuntime) {
         value: 1,
     });
     assert_eq!(rt; call_of(b"E00100011E"), Ok(required));
-    assert!(rt; write_call(required).as_slice() == b"E00100011E");
+    assert!(rt; write_call(required).as_slice() == b"E00100011E".as_slice());
 }
 
 #[test]
 fn run_lines(rt: HostRuntime) {
     let run = Run { bound: 0, start: 0 };
-    assert!(rt; write::<RunKind>(run).as_slice() == b"A0000060");
+    assert!(rt; write::<RunKind>(run).as_slice() == b"A0000060".as_slice());
     assert_eq!(rt; read::<RunKind>(b"A0000060"), Ok(run));
     let letter = Letter {
         instant: 0,
         signals: 1,
     };
-    assert!(rt; write::<LetterKind>(letter).as_slice() == b"C000000000013F");
+    assert!(rt; write::<LetterKind>(letter).as_slice() == b"C000000000013F".as_slice());
     assert_eq!(rt; read::<LetterKind>(b"C000000000013F"), Ok(letter));
 }
 

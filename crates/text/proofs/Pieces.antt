@@ -1,25 +1,25 @@
 -- Proof of the laws of lines and of words.
 use Rattle.std.proofs.Common.{◌≡◌, ℕ, ◌<◌, Bool, true, false, cond, eqb, List, [], ◌∷◌, ◌++◌, length, sym, refl, ap, ◌∙◌, subst, inl, inr, ⊎_elim, append_assoc, arith}
-use Rattle.std.specs.List.{AllByRecursion as All}
+use Rattle.std.specs.List.{AllByRecursion}
 use Rattle.std.proofs.lemmas.Bool.{cond-true, cond-false, eqb-true, eqb-false}
 use Rattle.text.specs.Split.{start, lines, words}
 use Rattle.text.specs.Laws.{Free, last, page, MadeOf, ended, LinesLaw, blank_before, WordsLaw}
 use Rattle.text.proofs.Splits.{other, Splits}
 
 -- a character that is not s joins the first piece
-free_start : (s b : ℕ) (ls : List (List ℕ)) → (b ≡ s → ⊥) → All (Free s) ls → All (Free s) (start b ls)
+free_start : (s b : ℕ) (ls : List (List ℕ)) → (b ≡ s → ⊥) → AllByRecursion (Free s) ls → AllByRecursion (Free s) (start b ls)
 free_start s b [] n a = ((n, tt), tt)
 free_start s b (l ∷ ls) n a = ((n, a.0), a.1)
 
 -- the pieces between the marks s have no s
-module _ (s : ℕ) (pieces : List ℕ → List (List ℕ)) (by : Splits s pieces) (none : All (Free s) (pieces [])) where
-  pieces_free : (text : List ℕ) → All (Free s) (pieces text)
+module _ (s : ℕ) (pieces : List ℕ → List (List ℕ)) (by : Splits s pieces) (none : AllByRecursion (Free s) (pieces [])) where
+  pieces_free : (text : List ℕ) → AllByRecursion (Free s) (pieces text)
   pieces_free [] = none
   pieces_free (b ∷ bs) = at (eqb b s) refl (pieces_free bs)
     where
-      at : (t : Bool) → eqb b s ≡ t → All (Free s) (pieces bs) → All (Free s) (pieces (b ∷ bs))
-      at true e a = subst (All (Free s)) (sym (by b bs ∙ cond-true (eqb b s) ([] ∷ pieces bs) (start b (pieces bs)) e)) (tt, a)
-      at false e a = subst (All (Free s)) (sym (by b bs ∙ cond-false (eqb b s) ([] ∷ pieces bs) (start b (pieces bs)) e)) (free_start s b (pieces bs) (eqb-false b s e) a)
+      at : (t : Bool) → eqb b s ≡ t → AllByRecursion (Free s) (pieces bs) → AllByRecursion (Free s) (pieces (b ∷ bs))
+      at true e a = subst (AllByRecursion (Free s)) (sym (by b bs ∙ cond-true (eqb b s) ([] ∷ pieces bs) (start b (pieces bs)) e)) (tt, a)
+      at false e a = subst (AllByRecursion (Free s)) (sym (by b bs ∙ cond-false (eqb b s) ([] ∷ pieces bs) (start b (pieces bs)) e)) (free_start s b (pieces bs) (eqb-false b s e) a)
 
 lines_other : (b : ℕ) (bs : List ℕ) → (b ≡ 10 → ⊥) → lines (b ∷ bs) ≡ start b (lines bs)
 lines_other = other 10 lines (λ b bs. refl)
@@ -32,7 +32,7 @@ lines-front : (l t : List ℕ) → Free 10 l → lines (l ++ 10 ∷ t) ≡ l ∷
 lines-front [] t f = refl
 lines-front (b ∷ bs) t f = lines_other b (bs ++ 10 ∷ t) f.0 ∙ ap (start b) (lines-front bs t f.1)
 
-lines-page : (ls : List (List ℕ)) → All (Free 10) ls → lines (page ls) ≡ ls
+lines-page : (ls : List (List ℕ)) → AllByRecursion (Free 10) ls → lines (page ls) ≡ ls
 lines-page [] f = refl
 lines-page (l ∷ ls) f = ap lines (append_assoc l (10 ∷ []) (page ls)) ∙ lines-front l (page ls) f.0 ∙ ap (λ x. l ∷ x) (lines-page ls f.1)
 
@@ -71,7 +71,7 @@ last_push : {X : Type 0} (d x : X) (xs : List X) → last d (xs ++ x ∷ []) ≡
 last_push d x [] = refl
 last_push d x (y ∷ ys) = last_push y x ys
 
-only : (text : List ℕ) (ls : List (List ℕ)) → All (Free 10) ls → MadeOf ls text → lines text ≡ ls
+only : (text : List ℕ) (ls : List (List ℕ)) → AllByRecursion (Free 10) ls → MadeOf ls text → lines text ≡ ls
 only text ls f m = ⊎_elim (λ e. ap lines (sym e) ∙ lines-page ls f) (λ e. lacks (ended text) (one_more text) e.0 e.1) m
   where
     lacks : (t : Bool) → lines (text ++ 10 ∷ []) ≡ cond t (lines text ++ [] ∷ []) (lines text) → page ls ≡ text ++ 10 ∷ [] → 0 < length (last [] ls) → lines text ≡ ls
@@ -102,7 +102,7 @@ pub lines_law : LinesLaw
 lines_law = record { free = pieces_free 10 lines (λ b bs. refl) tt; made = made; only = only; one_more = one_more }
 
 -- words
-words_only : (w : List ℕ) (ws : List (List ℕ)) → All (Free 32) (w ∷ ws) → words (w ++ blank_before ws) ≡ w ∷ ws
+words_only : (w : List ℕ) (ws : List (List ℕ)) → AllByRecursion (Free 32) (w ∷ ws) → words (w ++ blank_before ws) ≡ w ∷ ws
 words_only [] [] f = refl
 words_only [] (v ∷ ws) f = ap (λ x. [] ∷ x) (words_only v ws f.1)
 words_only (b ∷ bs) ws f = words_other b (bs ++ blank_before ws) f.0.0 ∙ ap (start b) (words_only bs ws (f.0.1, f.1))
@@ -118,10 +118,10 @@ spaced (b ∷ bs) = at (eqb b 32) refl (spaced bs)
     at true e m = ([], words bs, refl, ap (λ k. k ∷ bs) (eqb-true b 32 e) ∙ ap (λ x. 32 ∷ x) m.3 ∙ ap blank_before (sym m.2))
     at false e m = (b ∷ m.0, m.1, ap (start b) m.2, ap (λ x. b ∷ x) m.3)
 
-words_made : (line : List ℕ) → (w : List ℕ) × (ws : List (List ℕ)) × (words line ≡ w ∷ ws) × (line ≡ w ++ blank_before ws) × All (Free 32) (w ∷ ws)
+words_made : (line : List ℕ) → (w : List ℕ) × (ws : List (List ℕ)) × (words line ≡ w ∷ ws) × (line ≡ w ++ blank_before ws) × AllByRecursion (Free 32) (w ∷ ws)
 words_made line =
     let m = spaced line in
-    (m.0, m.1, m.2, m.3, subst (All (Free 32)) m.2 (pieces_free 32 words (λ b bs. refl) (tt, tt) line))
+    (m.0, m.1, m.2, m.3, subst (AllByRecursion (Free 32)) m.2 (pieces_free 32 words (λ b bs. refl) (tt, tt) line))
 
 pub words_law : WordsLaw
 words_law = record { made = words_made; only = words_only }

@@ -2,7 +2,7 @@ use Rattle.std.proofs.Common.{◌≡◌, ◌+◌, ◌*◌, ◌/◌, ◌<◌, [],
 use Rattle.std.proofs.lemmas.List.{length-set}
 use Rattle.frames.specs.Hex.{digit}
 use Rattle.frames.specs.Written.{spelled}
-use Rattle.frames.specs.Spelling.{spelled_push, take_two}
+use Rattle.frames.proofs.Spelling.{spelled_push, take_two}
 use Rattle.frames.proofs.encoding.encode.Goals as goal
 
 pub loop-i-preserved : goal.loop-i-preserved

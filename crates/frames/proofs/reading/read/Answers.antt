@@ -19,7 +19,7 @@ returns-in_err-frame g c =
     let k = g.K.Kind.layout in
     let law = g.met.K.Kind.lawful in
     let line = c.args.line.now in
-    let r = c.from-residual.result in
-    let p = err_from_is_err_and r c.from-residual.ensures.1 in
+    let r = c.from_residual.result in
+    let p = err_from_is_err_and r c.from_residual.ensures.1 in
     let v : r ≡ reading k line = read_refused k law line _ r (p.1 ∙ ap Err p.2) c.in_err-frame.ensures in
     record { value = v; back = read_back k law line r v }

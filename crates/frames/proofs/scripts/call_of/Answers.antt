@@ -15,7 +15,7 @@ returns c =
 pub returns-in_err-frame : goal.returns-in_err-frame
 returns-in_err-frame c =
     let line = c.args.line.now in
-    let r = c.from-residual.result in
-    let p = err_from_is_err_and r c.from-residual.ensures.1 in
+    let r = c.from_residual.result in
+    let p = err_from_is_err_and r c.from_residual.ensures.1 in
     let v : r ≡ calling line = call_refused line _ r (p.1 ∙ ap Err p.2) c.in_err-frame.ensures in
     record { value = v; back = call_made line r v }

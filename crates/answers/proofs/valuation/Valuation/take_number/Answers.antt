@@ -2,7 +2,7 @@ use Rattle.std.proofs.Common.{◌≡◌, ◌-◌, [], ◌∷◌, ◌++◌, get_o
 use Rattle.answers.specs.Progress.{Holds}
 use Rattle.answers.proofs.Held.{resume-kept, holds_strange, holds_more}
 use Rattle.answers.proofs.valuation.Valuation.take_number.Goals as goal
-use Rattle.answers.proofs.valuation.Valuation.take_number.Goals.{then_variable_highest_via_then_variable_highest, then_variable_highest_via_else_variable_highest+then_is_some}
+use Rattle.answers.proofs.valuation.Valuation.take_number.Goals.{then-variable-highest-via-then-variable-highest, then-variable-highest-via-else-variable-highest+then-is_some}
 
 pub returns-then-variable-highest : goal.returns-then-variable-highest
 returns-then-variable-highest c x like ms h =
@@ -11,8 +11,8 @@ returns-then-variable-highest c x like ms h =
       ms ++ x ∷ [],
       holds_strange v _ _ ms x h
           (elim c.then-variable-highest.branch [
-            | then_variable_highest_via_then_variable_highest w ↦ inl (omega (arith, like.1, w.if-variable-highest.true))
-            | then_variable_highest_via_else_variable_highest+then_is_some w ↦
+            | then-variable-highest-via-then-variable-highest w ↦ inl (omega (arith, like.1, w.if-variable-highest.true))
+            | then-variable-highest-via-else-variable-highest+then-is_some w ↦
                 let same : c.args.n.variable ≡ x.variable = omega (arith, like.1, w.if-variable-highest.false) in
                 inr (omega (arith, w.if-variable-highest.false), omega arith, ap (λ j. is_some (get_or vs (j - 1) None)) (sym same) ∙ sym w.if-is_some.ensures)
           ]),

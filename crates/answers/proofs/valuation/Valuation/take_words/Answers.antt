@@ -18,8 +18,8 @@ loop-n-preserved c =
     let w = c.split_word.result.0.now in
     let x = short_some (number w) c.in-Some.n c.in-Some.ensures in
     going_word c.args.highest c.args.self.now c.loop-n.self c.take_number.new.self (join (each (words c.args.text.now)))
-    (words c.loop-n.left.now) w (words c.in-Some-default.more.now) x.0
-    (c.split_word.ensures.first ∙ ap (λ o. w ∷ words_of o) c.in-Some-default.is) x.1 c.loop-n.invariant (c.if-not-take_number.ensures x.0 x.2)
+    (words c.loop-n.left.now) w (words c.in-Some-rest.more.now) x.0
+    (c.split_word.ensures.first ∙ ap (λ o. w ∷ words_of o) c.in-Some-rest.is) x.1 c.loop-n.invariant (c.if-not-take_number.ensures x.0 x.2)
 
 pub returns-in-None : goal.returns-in-None
 returns-in-None c =
