@@ -1,8 +1,7 @@
 -- What one more line does to a writer's area.
-use Rattle.std.proofs.Common.{◌≡◌, ℕ, ◌+◌, ◌-◌, ◌*◌, ◌≤◌, Bool, true, false, ◌&&◌, eqb, List, [], ◌∷◌, ◌++◌, length, take, set, Some, None, Ok, Err, Option, sym, refl, ap, ◌∙◌, arith}
+use Rattle.std.proofs.Common.{◌≡◌, ℕ, ◌+◌, ◌-◌, ◌≤◌, Bool, true, false, ◌&&◌, List, [], ◌∷◌, ◌++◌, length, take, set, Some, None, Ok, Option, sym, refl, ap, ◌∙◌, arith}
 use Rattle.std.proofs.lemmas.List.{take-set-le, length-set, length_push}
 use Rattle.std.proofs.lemmas.Bool.{and_parts, and_from, eq-eqb, eqb-true, false≢true}
-use Rattle.std.specs.List.{flat_map}
 use Rattle.cnf.specs.Clauses.{Assignment, Clause, Clauses, sat, sat_all, in_range, all_in_range}
 use Rattle.cnf.specs.Refusals.{verdict}
 use Rattle.sinks.specs.Lines.{line, over, read, all_true, has_clauses, writer_cells, Written}

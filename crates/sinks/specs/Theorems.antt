@@ -1,5 +1,5 @@
 -- Worked cases of lines and of free cells.
-use Rattle.std.specs.Prelude.{◌≡◌, ℕ, true, false, [], ◌∷◌, is_ok, codes}
+use Rattle.std.specs.Prelude.{◌≡◌, true, false, [], ◌∷◌, is_ok, codes}
 use Rattle.cnf.specs.declared.clause.Literal.{Literal}
 use Rattle.cnf.specs.Clauses.{Clause, asserted, negated, within}
 use Rattle.cnf.specs.Refusals.{verdict}

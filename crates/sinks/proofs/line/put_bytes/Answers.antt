@@ -1,4 +1,4 @@
-use Rattle.std.proofs.Common.{sym, refl, ap, ◌∙◌, arith, take_all}
+use Rattle.std.proofs.Common.{sym, refl, ap, ◌∙◌, take_all}
 use Rattle.sinks.specs.Lines.{over}
 use Rattle.sinks.proofs.Over.{over_none, place_more}
 use Rattle.sinks.proofs.line.put_bytes.Goals as goal

@@ -1,4 +1,4 @@
-use Rattle.std.proofs.Common.{◌≡◌, ◌+◌, length, arith}
+use Rattle.std.proofs.Common.{arith}
 use Rattle.sinks.proofs.Over.{over_next, literal_long, numeral_area, numeral_end}
 use Rattle.sinks.proofs.line.put_literal.Goals as goal
 

@@ -1,4 +1,4 @@
-use Rattle.std.proofs.Common.{◌≡◌, ◌+◌, [], ◌∷◌, length, decimal, arith}
+use Rattle.std.proofs.Common.{[], ◌∷◌, decimal, arith}
 use Rattle.sinks.proofs.Over.{over_next, pair_long, numeral_area, numeral_end}
 use Rattle.sinks.proofs.line.put_pair.Goals as goal
 
