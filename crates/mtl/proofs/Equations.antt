@@ -5,7 +5,6 @@ use native.Mathlib.Nat.{add-mod_left}
 use Rattle.std.proofs.lemmas.Bool.{cases_lt, le-leb, lt-leb, cond-true, cond-false}
 use Rattle.cnf.specs.Clauses.{Clauses, opposite, truth, sat_all}
 use Rattle.mtl.specs.Shapes.{same, both, either, upto, hold, any, all, given, when, each, Lits, span, down}
-use Rattle.mtl.specs.Rows.{first}
 use Rattle.mtl.specs.Lists.{delayed, starts, inside, period, around, seen, beyond, ahead, closing}
 use Rattle.mtl.specs.Runs.{lasso, Marks}
 use Rattle.mtl.proofs.Shapes.{hold_dual, upto_none, append_law, each_law, same_law, both_law, either_law, upto_law, hold_law, any_law, all_law, pair_law, truth-opposite, some, sat-span, sat_span_opposite}
