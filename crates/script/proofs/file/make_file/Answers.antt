@@ -4,8 +4,8 @@ use Rattle.script.proofs.Filing.{heading-short, same_name, same_length, refused,
 use Rattle.script.proofs.file.make_file.Goals as goal
 use Rattle.script.proofs.file.make_file.Goals.{After-text}
 
-pub shape-of-work-in-Err· : goal.shape-of-work-in-Err·
-shape-of-work-in-Err· c = sym c.new-writer.ensures.name ∙ sym (same_name c.drive_script_lent-outcome.ensures)
+pub shape_of-work-in-Err-1 : goal.shape_of-work-in-Err-1
+shape_of-work-in-Err-1 c = sym c.new-writer.ensures.name ∙ sym (same_name c.drive_script_lent-outcome.ensures)
 
 pub put_pair-lines-requires : goal.put_pair-lines-requires
 put_pair-lines-requires c =
@@ -24,8 +24,8 @@ room c =
 pub put_bytes-requires : goal.put_bytes-requires
 put_bytes-requires c = omega (arith, room c, c.told-output)
 
-pub shape-of-work-in-Ok : goal.shape-of-work-in-Ok
-shape-of-work-in-Ok c = sym c.new-writer.ensures.name ∙ sym (same_name c.drive_script_lent-outcome.ensures)
+pub shape_of-work-in-Ok : goal.shape_of-work-in-Ok
+shape_of-work-in-Ok c = sym c.new-writer.ensures.name ∙ sym (same_name c.drive_script_lent-outcome.ensures)
 
 pub returns-in-Err : goal.returns-in-Err
 returns-in-Err c = record {
