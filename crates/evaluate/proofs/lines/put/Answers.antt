@@ -1,7 +1,7 @@
 use Rattle.std.proofs.Common.{◌≡◌, ◌+◌, ◌*◌, ◌<◌, eqb, length, sym, ap, ◌∙◌, arith}
 use Rattle.evaluate.proofs.Cells.{put_here, put_other, within}
 use Rattle.evaluate.proofs.lines.put.Goals as goal
-use Rattle.evaluate.proofs.lines.put.Goals.{then_v, else_v}
+use Rattle.evaluate.proofs.lines.put.Goals.{then-v, else-v}
 
 pub returns : goal.returns
 returns c = record {
@@ -14,6 +14,6 @@ returns c = record {
     is : eqb c.if-v.work 1 ≡ c.args.v
     is =
         elim c.if-v.branch [
-          | then_v w ↦ ap (λ x. eqb x 1) w.work-is ∙ sym w.if-v.true
-          | else_v w ↦ ap (λ x. eqb x 1) w.work-is ∙ sym w.if-v.false
+          | then-v w ↦ ap (λ x. eqb x 1) w.work-is ∙ sym w.if-v.true
+          | else-v w ↦ ap (λ x. eqb x 1) w.work-is ∙ sym w.if-v.false
         ]
