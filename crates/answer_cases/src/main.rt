@@ -4,8 +4,7 @@
 use answers::reading::read_answer;
 use answers::verdicts::Verdict;
 use calls::{beginning, defining};
-use job::call::Call;
-use job::call::Exchange;
+use job::call::{Call, Exchange};
 use job::drive::drive_lent;
 use job::state::Setup;
 use sinks::writer::Writer;

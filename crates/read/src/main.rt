@@ -1,12 +1,12 @@
 // Reads a script from script.txt and a solver's answer on standard input, and prints the run, NOT IN, NONE, or why one is refused.
 #![tactic(auto)]
 
-use anyhow::anyhow;
 use report::reporting::make_report;
 use report::telling::REPORT_BYTES;
 use script::file::{MOST_SCRIPT, WORK_BYTES};
 use std::fs::File;
 use std::io::{Read, Write};
+use std::process::ExitCode;
 
 // An answer of more bytes is refused, whatever they are.
 const MOST_ANSWER: u64 = 60_001;
@@ -27,10 +27,11 @@ fn run(rt: &HostRuntime) -> anyhow::Result<bool> {
     Ok(told.refused)
 }
 
-fn main(rt: HostRuntime) -> anyhow::Result<()> {
-    match run(&rt) {
-        Ok(false) => Ok(()),
-        Ok(true) => Err(anyhow!("refused")),
-        Err(error) => Err(error),
+// The status is 1 for a refusal.
+fn main(rt: HostRuntime) -> anyhow::Result<ExitCode> {
+    if run(&rt)? {
+        Ok(ExitCode::FAILURE)
+    } else {
+        Ok(ExitCode::SUCCESS)
     }
 }

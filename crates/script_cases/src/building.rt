@@ -1,8 +1,8 @@
 // Scripts that are made from calls.
 use crate::showing::show;
+use calls::lines::write_call;
 use calls::{beginning, defining};
 use job::call::Call;
-use calls::lines::write_call;
 
 // An assignment that makes every variable true.
 pub fn filled() -> [u8; 100] {

@@ -7,8 +7,8 @@ mod showing;
 
 use building::{filled, many, show_script_of};
 use calls::{beginning, defining, requiring};
-use job::call::Call;
 use cnf::switch::Switch;
+use job::call::Call;
 use script::running::drive_script;
 use showing::show;
 use sinks::judge::Judge;

@@ -1,9 +1,9 @@
 // Reads a script on standard input and prints its file, or why it is refused.
 #![tactic(auto)]
 
-use anyhow::anyhow;
 use script::file::{FILE_BYTES, MOST_SCRIPT, WORK_BYTES, make_file};
 use std::io::{Read, Write};
+use std::process::ExitCode;
 
 // Prints the file or the refusal; true where it is a refusal.
 fn run(rt: &HostRuntime) -> anyhow::Result<bool> {
@@ -23,10 +23,11 @@ fn run(rt: &HostRuntime) -> anyhow::Result<bool> {
     }
 }
 
-fn main(rt: HostRuntime) -> anyhow::Result<()> {
-    match run(&rt) {
-        Ok(false) => Ok(()),
-        Ok(true) => Err(anyhow!("refused")),
-        Err(error) => Err(error),
+// The status is 1 for a refusal.
+fn main(rt: HostRuntime) -> anyhow::Result<ExitCode> {
+    if run(&rt)? {
+        Ok(ExitCode::FAILURE)
+    } else {
+        Ok(ExitCode::SUCCESS)
     }
 }
