@@ -4,7 +4,7 @@ use Rattle.mtl.specs.Layout.{rows_of}
 use Rattle.witness.specs.Shown.{shown}
 use Rattle.witness.proofs.Digits.{digit_more}
 use Rattle.witness.proofs.run.letter_at.Goals as goal
-use Rattle.witness.proofs.run.letter_at.Goals.{then_shown_at, else_shown_at}
+use Rattle.witness.proofs.run.letter_at.Goals.{then-shown_at, else-shown_at}
 
 pub loop-a-preserved : goal.loop-a-preserved
 loop-a-preserved c =
@@ -12,11 +12,11 @@ loop-a-preserved c =
     (c.loop-a.a - 1) c.loop-a.a (omega arith) (omega arith) (is ∙ c.shown_at.ensures) c.loop-a.invariant.0 c.loop-a.invariant.1
   where
     small : c.if-shown_at.digit < 2
-    small = elim c.if-shown_at.branch [ then_shown_at w ↦ omega (arith, w.digit-is) | else_shown_at w ↦ omega (arith, w.digit-is) ]
+    small = elim c.if-shown_at.branch [ then-shown_at w ↦ omega (arith, w.digit-is) | else-shown_at w ↦ omega (arith, w.digit-is) ]
 
     is : eqb c.if-shown_at.digit 1 ≡ c.shown_at.result
     is =
         elim c.if-shown_at.branch [
-          | then_shown_at w ↦ ap (λ x. eqb x 1) w.digit-is ∙ sym w.if-shown_at.true
-          | else_shown_at w ↦ ap (λ x. eqb x 1) w.digit-is ∙ sym w.if-shown_at.false
+          | then-shown_at w ↦ ap (λ x. eqb x 1) w.digit-is ∙ sym w.if-shown_at.true
+          | else-shown_at w ↦ ap (λ x. eqb x 1) w.digit-is ∙ sym w.if-shown_at.false
         ]
