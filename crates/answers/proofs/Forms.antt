@@ -1,7 +1,7 @@
 -- Proof of the law of v lines.
-use Rattle.std.proofs.Common.{◌≡◌, ℕ, ◌+◌, ◌-◌, ◌*◌, ◌/◌, ◌%◌, ◌<◌, ◌≤◌, Bool, true, false, cond, eqb, leb, ◌⊎◌, List, [], ◌∷◌, ◌++◌, map, length, get_or, Some, None, Option, sym, refl, ap, ◌∙◌, subst, ⊎_elim, append_assoc, append-nil, arith}
+use Rattle.std.proofs.Common.{◌≡◌, ℕ, ◌+◌, ◌-◌, ◌*◌, ◌/◌, ◌%◌, ◌<◌, ◌≤◌, Bool, true, false, cond, eqb, leb, List, [], ◌∷◌, ◌++◌, map, length, get_or, Some, None, Option, sym, refl, ap, ◌∙◌, subst, ⊎_elim, append_assoc, append-nil, arith}
 use Rattle.std.specs.Int.Digits.{digits_of, number_from_digits_after}
-use Rattle.std.specs.List.{AllByRecursion as All}
+use Rattle.std.specs.List.{AllByRecursion}
 use Rattle.std.specs.Str.{bytes_eq}
 use Rattle.std.proofs.lemmas.Int.Digits.{digits_of_step, all_below_base_digits_of, first_digits_of, number_digits_of}
 use Rattle.std.proofs.lemmas.Slice.Eq.{bytes_eq-Decides}
@@ -17,7 +17,7 @@ use Rattle.answers.specs.Laws.{Proper, LineLaw}
 
 -- digits: d is written 48 + d
 abbrev Under : List ℕ → Type 0
-Under ds = All (λ d. d < 10) ds
+Under ds = AllByRecursion (λ d. d < 10) ds
 
 abbrev text : List ℕ → List ℕ
 text ds = map (λ d. 48 + d) ds
@@ -173,24 +173,24 @@ number_only (c ∷ cs) n e = at (eqb c 45) refl
     at true t = signed (numeral cs) refl (sym (cond-true (eqb c 45) (minus (numeral cs)) (plus (numeral (c ∷ cs))) t) ∙ e) (eqb-true c 45 t)
     at false t = plain (numeral (c ∷ cs)) refl (sym (cond-false (eqb c 45) (minus (numeral cs)) (plus (numeral (c ∷ cs))) t) ∙ e)
 
-each-shown : (ns : List Literal) → All Proper ns → each (map shown ns) ≡ Some ns
+each-shown : (ns : List Literal) → AllByRecursion Proper ns → each (map shown ns) ≡ Some ns
 each-shown [] p = refl
 each-shown (n ∷ ns) p = ap (λ o. front o (each (map shown ns))) (number-shown n p.0) ∙ ap (front (Some n)) (each-shown ns p.1)
 
-each_only : (ws : List (List ℕ)) (ns : List Literal) → each ws ≡ Some ns → (ws ≡ map shown ns) × All Proper ns
+each_only : (ws : List (List ℕ)) (ns : List Literal) → each ws ≡ Some ns → (ws ≡ map shown ns) × AllByRecursion Proper ns
 each_only [] ns e =
     let q : [] ≡ ns = cc in
-    subst (λ l. (◌≡◌ {A = List (List ℕ)} [] (map shown l)) × All Proper l) q (refl, tt)
+    subst (λ l. (◌≡◌ {A = List (List ℕ)} [] (map shown l)) × AllByRecursion Proper l) q (refl, tt)
 each_only (w ∷ ws) ns e = at (number w) (each ws) refl refl e (each_only ws)
   where
-    at : (o : Option Literal) (p : Option (List Literal)) → number w ≡ o → each ws ≡ p → front o p ≡ Some ns → ((ms : List Literal) → each ws ≡ Some ms → (ws ≡ map shown ms) × All Proper ms) → (w ∷ ws ≡ map shown ns) × All Proper ns
+    at : (o : Option Literal) (p : Option (List Literal)) → number w ≡ o → each ws ≡ p → front o p ≡ Some ns → ((ms : List Literal) → each ws ≡ Some ms → (ws ≡ map shown ms) × AllByRecursion Proper ms) → (w ∷ ws ≡ map shown ns) × AllByRecursion Proper ns
     at None p f g h k = absurd (none_some ns h)
     at (Some x) None f g h k = absurd (none_some ns h)
     at (Some x) (Some ms) f g h k =
         let q : x ∷ ms ≡ ns = cc in
         let a = number_only w x f in
         let b = k ms g in
-        subst (λ l. (w ∷ ws ≡ map shown l) × All Proper l) q (ap (λ y. y ∷ ws) a.0 ∙ ap (λ l. shown x ∷ l) b.0, (a.1, b.1))
+        subst (λ l. (w ∷ ws ≡ map shown l) × AllByRecursion Proper l) q (ap (λ y. y ∷ ws) a.0 ∙ ap (λ l. shown x ∷ l) b.0, (a.1, b.1))
 
 -- no character before the minus, as a blank or a line feed, stands in a number
 module _ (mark : ℕ) (low : mark < 45) where
@@ -205,7 +205,7 @@ module _ (mark : ℕ) (low : mark < 45) where
       at true = (λ z. omega (arith, z), tt)
       at false = free_text (digits_of 10 n)
 
-  pub free_shown : (ns : List Literal) → All (Free mark) (map shown ns)
+  pub free_shown : (ns : List Literal) → AllByRecursion (Free mark) (map shown ns)
   free_shown [] = tt
   free_shown (n ∷ ns) = (at n.positive, free_shown ns)
     where
@@ -216,22 +216,22 @@ module _ (mark : ℕ) (low : mark < 45) where
 words-v_line : (ns : List Literal) → words (v_line ns) ≡ (118 ∷ []) ∷ map shown ns
 words-v_line ns = words_law.only (118 ∷ []) (map shown ns) ((λ z. omega (arith, z), tt), free_shown 32 (omega arith) ns)
 
-pub reads_law : (ns : List Literal) → 0 < length ns → All Proper ns → after_v (words (v_line ns)) ≡ Some ns
+pub reads_law : (ns : List Literal) → 0 < length ns → AllByRecursion Proper ns → after_v (words (v_line ns)) ≡ Some ns
 reads_law [] h p = absurd (omega arith)
 reads_law (n ∷ ns) h p = ap after_v (words-v_line (n ∷ ns)) ∙ each-shown (n ∷ ns) p
 
-pub only_law : (l : List ℕ) (ns : List Literal) → after_v (words l) ≡ Some ns → (l ≡ v_line ns) × (0 < length ns) × All Proper ns
+pub only_law : (l : List ℕ) (ns : List Literal) → after_v (words l) ≡ Some ns → (l ≡ v_line ns) × (0 < length ns) × AllByRecursion Proper ns
 only_law l ns e = let m = words_law.made l in at m.0 m.1 m.3 (sym (ap after_v m.2) ∙ e)
   where
     long : (w : List ℕ) (ws : List (List ℕ)) (ms : List Literal) → w ∷ ws ≡ map shown ms → 0 < length ms
     long w ws [] q = absurd (let o : ◌≡◌ {A = ℕ} 0 1 = cc in omega arith)
     long w ws (m ∷ ms) q = omega arith
 
-    at : (v : List ℕ) (ws : List (List ℕ)) → l ≡ v ++ blank_before ws → after_v (v ∷ ws) ≡ Some ns → (l ≡ v_line ns) × (0 < length ns) × All Proper ns
+    at : (v : List ℕ) (ws : List (List ℕ)) → l ≡ v ++ blank_before ws → after_v (v ∷ ws) ≡ Some ns → (l ≡ v_line ns) × (0 < length ns) × AllByRecursion Proper ns
     at v [] q h = absurd (none_some ns h)
     at v (w ∷ ws) q h = by (bytes_eq v (118 ∷ [])) refl
       where
-        by : (b : Bool) → bytes_eq v (118 ∷ []) ≡ b → (l ≡ v_line ns) × (0 < length ns) × All Proper ns
+        by : (b : Bool) → bytes_eq v (118 ∷ []) ≡ b → (l ≡ v_line ns) × (0 < length ns) × AllByRecursion Proper ns
         by true t =
             let r = each_only (w ∷ ws) ns (sym (cond-true (bytes_eq v (118 ∷ [])) (each (w ∷ ws)) None t) ∙ h) in (
               q ∙ ap (λ x. x ++ blank_before (w ∷ ws)) ((bytes_eq-Decides v (118 ∷ [])).0 t) ∙ ap (λ x. 118 ∷ blank_before x) r.0,

@@ -1,6 +1,6 @@
 -- The verdict and the literals of a text: proof of the law of what it says.
 use Rattle.std.proofs.Common.{◌≡◌, ℕ, Bool, true, false, not, ◌&&◌, ◌||◌, eqb, List, [], ◌∷◌, ◌++◌, map, Some, sym, refl, ap, ◌∙◌, subst, inl, append-nil, arith}
-use Rattle.std.specs.List.{AllByRecursion as All}
+use Rattle.std.specs.List.{AllByRecursion}
 use Rattle.std.specs.Str.{bytes_eq}
 use Rattle.std.proofs.ByRecursion.{All-append}
 use Rattle.std.proofs.lemmas.Slice.Eq.{bytes_eq-Decides}
@@ -103,11 +103,11 @@ free_by mark (b ∷ bs) e =
     let p = and_parts (not (eqb b mark)) (lacks mark bs) e in
     (eqb-false b mark (not-true (eqb b mark) p.0), free_by mark bs p.1)
 
-free_blanks : (ws : List (List ℕ)) → All (Free 10) ws → Free 10 (blank_before ws)
+free_blanks : (ws : List (List ℕ)) → AllByRecursion (Free 10) ws → Free 10 (blank_before ws)
 free_blanks [] f = tt
 free_blanks (w ∷ ws) f = All-append (λ b. b ≡ 10 → ⊥) (32 ∷ w) (blank_before ws) (λ z. omega (arith, z), f.0) (free_blanks ws f.1)
 
-free_lines : (ns : List Literal) → All (Free 10) (verdict_line Satisfiable ∷ v_line ns ∷ [])
+free_lines : (ns : List Literal) → AllByRecursion (Free 10) (verdict_line Satisfiable ∷ v_line ns ∷ [])
 free_lines ns = (free_by 10 (verdict_line Satisfiable) refl, ((λ z. omega (arith, z), free_blanks (map shown ns) (free_shown 10 (omega arith) ns)), tt))
 
 pub told_law : ToldLaw

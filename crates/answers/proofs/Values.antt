@@ -1,6 +1,6 @@
 -- What literals give: proof of the laws of their variables and values.
-use Rattle.std.proofs.Common.{◌≡◌, ℕ, zero, suc, ◌+◌, ◌-◌, ◌<◌, ◌≤◌, Bool, true, false, cond, not, ◌&&◌, eqb, leb, List, [], ◌∷◌, ◌++◌, length, get_or, is_some, Some, sym, refl, ap, ◌∙◌, ⊎_elim, append_assoc, arith}
-use Rattle.std.specs.List.{AllByRecursion as All}
+use Rattle.std.proofs.Common.{◌≡◌, ℕ, zero, suc, ◌-◌, ◌<◌, ◌≤◌, Bool, true, false, cond, not, ◌&&◌, eqb, leb, List, [], ◌∷◌, ◌++◌, length, get_or, is_some, Some, sym, refl, ap, ◌∙◌, ⊎_elim, append_assoc, arith}
+use Rattle.std.specs.List.{AllByRecursion}
 use Rattle.std.proofs.lemmas.List.{length-append, get_or_at}
 use Rattle.std.proofs.lemmas.Bool.{and_parts, and_from, cond-true, cond-false, eq-eqb, ne_eqb, eqb-true, eqb-false, le-leb, leb-true, not-true, both_ways, cases_eq}
 use Rattle.cnf.specs.Clauses.{truth, within}
@@ -12,15 +12,15 @@ use Rattle.answers.specs.Meaning.{MakesTrue}
 use Rattle.answers.specs.Laws.{SoundLaw, TotalLaw, ValuesLaw}
 
 -- a variable that is not given, and one that is
-none_named : (ns : List Literal) (x : ℕ) → given ns x ≡ false → All (λ m. m.variable ≡ x → ⊥) ns
+none_named : (ns : List Literal) (x : ℕ) → given ns x ≡ false → AllByRecursion (λ m. m.variable ≡ x → ⊥) ns
 none_named [] x g = tt
 none_named (n ∷ ns) x g = at (eqb n.variable x) refl (none_named ns x)
   where
-    at : (b : Bool) → eqb n.variable x ≡ b → (given ns x ≡ false → All (λ m. m.variable ≡ x → ⊥) ns) → All (λ m. m.variable ≡ x → ⊥) (n ∷ ns)
+    at : (b : Bool) → eqb n.variable x ≡ b → (given ns x ≡ false → AllByRecursion (λ m. m.variable ≡ x → ⊥) ns) → AllByRecursion (λ m. m.variable ≡ x → ⊥) (n ∷ ns)
     at true t h = absurd (both_ways (given (n ∷ ns) x) g (ap is_some (cond-true (eqb n.variable x) (Some n.positive) (value ns x) t)))
     at false t h = (eqb-false n.variable x t, h (sym (ap is_some (cond-false (eqb n.variable x) (Some n.positive) (value ns x) t)) ∙ g))
 
-not_given : (ns : List Literal) (x : ℕ) → All (λ m. m.variable ≡ x → ⊥) ns → given ns x ≡ false
+not_given : (ns : List Literal) (x : ℕ) → AllByRecursion (λ m. m.variable ≡ x → ⊥) ns → given ns x ≡ false
 not_given [] x a = refl
 not_given (n ∷ ns) x a = ap is_some (cond-false (eqb n.variable x) (Some n.positive) (value ns x) (ne_eqb n.variable x a.0)) ∙ not_given ns x a.1
 
@@ -89,14 +89,14 @@ abbrev Agrees : List Literal → Literal → Type 0
 Agrees ns n = value ns n.variable ≡ Some n.positive
 
 -- m before literals, none of which has its variable
-under : (m : Literal) (ms ns : List Literal) → All (λ n. n.variable ≡ m.variable → ⊥) ns → All (Agrees ms) ns → All (Agrees (m ∷ ms)) ns
+under : (m : Literal) (ms ns : List Literal) → AllByRecursion (λ n. n.variable ≡ m.variable → ⊥) ns → AllByRecursion (Agrees ms) ns → AllByRecursion (Agrees (m ∷ ms)) ns
 under m ms [] d h = tt
 under m ms (n ∷ ns) d h = (
   cond-false (eqb m.variable n.variable) (Some m.positive) (value ms n.variable) (ne_eqb m.variable n.variable (λ e. d.0 (sym e))) ∙ h.0,
   under m ms ns d.1 h.1,
 )
 
-each_literal : (ns : List Literal) → Distinct ns → All (Agrees ns) ns
+each_literal : (ns : List Literal) → Distinct ns → AllByRecursion (Agrees ns) ns
 each_literal [] d = tt
 each_literal (m ∷ ms) d = (
   cond-true (eqb m.variable m.variable) (Some m.positive) (value ms m.variable) (eq-eqb m.variable m.variable refl),
@@ -137,7 +137,7 @@ true_by area n e = at n.positive refl
 all_true : (v : ℕ) (lits : List Literal) (rest : List ℕ) → Sound v lits → MakesTrue (bytes v lits ++ rest) lits
 all_true v lits rest s = each lits s.0 (each_literal lits s.1)
   where
-    each : (ns : List Literal) → All (λ n. (1 ≤ n.variable) × (n.variable ≤ v)) ns → All (Agrees lits) ns → MakesTrue (bytes v lits ++ rest) ns
+    each : (ns : List Literal) → AllByRecursion (λ n. (1 ≤ n.variable) × (n.variable ≤ v)) ns → AllByRecursion (Agrees lits) ns → MakesTrue (bytes v lits ++ rest) ns
     each [] a h = tt
     each (n ∷ ns) a h =
         let low : 1 ≤ n.variable = a.0.0 in

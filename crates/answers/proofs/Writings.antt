@@ -1,6 +1,6 @@
 -- Proof of the law of the literals of the v lines.
 use Rattle.std.proofs.Common.{◌≡◌, ℕ, ◌<◌, Bool, true, false, eqb, List, [], ◌∷◌, ◌++◌, map, length, Some, None, Option, sym, refl, ap, ◌∙◌, subst, ⊎_elim, arith}
-use Rattle.std.specs.List.{flat_map, AllByRecursion as All}
+use Rattle.std.specs.List.{flat_map, AllByRecursion}
 use Rattle.std.proofs.ByRecursion.{All-append, All-weaker}
 use Rattle.std.proofs.lemmas.Bool.{cond-true, cond-false, eq-eqb, ne_eqb, cases_eq, both_ways}
 use Rattle.cnf.specs.declared.clause.Literal.{Literal}
@@ -13,17 +13,17 @@ use Rattle.answers.proofs.Forms.{none_some, reads_law, only_law}
 abbrev flat : List (List Literal) → List Literal
 flat gs = flat_map (λ ns. ns) gs
 
-all_parts : (P : Literal → Type 0) (xs ys : List Literal) → All P (xs ++ ys) → All P xs × All P ys
+all_parts : (P : Literal → Type 0) (xs ys : List Literal) → AllByRecursion P (xs ++ ys) → AllByRecursion P xs × AllByRecursion P ys
 all_parts P [] ys h = (tt, h)
 all_parts P (x ∷ xs) ys h = let r = all_parts P xs ys h.1 in ((h.0, r.0), r.1)
 
-numbers-written : (gs : List (List Literal)) → All (λ ns. 0 < length ns) gs → All Proper (flat gs) → numbers (map v_line gs) ≡ Some (flat gs)
+numbers-written : (gs : List (List Literal)) → AllByRecursion (λ ns. 0 < length ns) gs → AllByRecursion Proper (flat gs) → numbers (map v_line gs) ≡ Some (flat gs)
 numbers-written [] s p = refl
 numbers-written (g ∷ gs) s p =
     let r = all_parts Proper g (flat gs) p in
     ap (λ o. join o (numbers (map v_line gs))) (reads_law g s.0 r.0) ∙ ap (join (Some g)) (numbers-written gs s.1 r.1)
 
-closed-written : (lits : List Literal) → All (λ n. 0 < n.variable) lits → closed (lits ++ nought ∷ []) ≡ Some lits
+closed-written : (lits : List Literal) → AllByRecursion (λ n. 0 < n.variable) lits → closed (lits ++ nought ∷ []) ≡ Some lits
 closed-written [] h = refl
 closed-written (n ∷ []) h = cond-false (eqb n.variable 0) None (front (Some n) (closed (nought ∷ []))) (ne_eqb n.variable 0 (λ z. omega (arith, z, h.0)))
 closed-written (n ∷ m ∷ ns) h =
@@ -32,16 +32,16 @@ closed-written (n ∷ m ∷ ns) h =
 
 reads : (ls : List (List ℕ)) (lits : List Literal) → Written ls lits → literals ls ≡ Some lits
 reads ls lits w =
-    let p : All Proper (flat w.groups) = subst (All Proper) (sym w.together) (All-append Proper lits (nought ∷ []) (All-weaker (λ n. 0 < n.variable) Proper (λ n h e. h) lits w.no_zero) ((λ e. absurd (both_ways true e refl)), tt)) in
+    let p : AllByRecursion Proper (flat w.groups) = subst (AllByRecursion Proper) (sym w.together) (All-append Proper lits (nought ∷ []) (All-weaker (λ n. 0 < n.variable) Proper (λ n h e. h) lits w.no_zero) ((λ e. absurd (both_ways true e refl)), tt)) in
     ap literals w.each_line ∙ ap close (numbers-written w.groups w.each_some p ∙ ap Some w.together) ∙ closed-written lits w.no_zero
 
 -- the groups of lines that are read
 record Groups (ls : List (List ℕ)) (ns : List Literal) : Type 0 where
   parts : List (List Literal)
   lines_are : ls ≡ map v_line parts
-  some : All (λ g. 0 < length g) parts
+  some : AllByRecursion (λ g. 0 < length g) parts
   whole : flat parts ≡ ns
-  proper : All Proper ns
+  proper : AllByRecursion Proper ns
 
 groups : (ls : List (List ℕ)) (ns : List Literal) → numbers ls ≡ Some ns → Groups ls ns
 groups [] ns e = let q : [] ≡ ns = cc in subst (Groups []) q (record { parts = []; lines_are = refl; some = tt; whole = refl; proper = tt })
@@ -70,9 +70,9 @@ is_nought n z p = at n.positive refl
     at false t = absurd (omega (arith, z, p t))
 
 abbrev Closes : List Literal → List Literal → Type 0
-Closes ns lits = (ns ≡ lits ++ nought ∷ []) × All (λ n. 0 < n.variable) lits
+Closes ns lits = (ns ≡ lits ++ nought ∷ []) × AllByRecursion (λ n. 0 < n.variable) lits
 
-closes : (ns lits : List Literal) → closed ns ≡ Some lits → All Proper ns → Closes ns lits
+closes : (ns lits : List Literal) → closed ns ≡ Some lits → AllByRecursion Proper ns → Closes ns lits
 closes [] lits e p = absurd (none_some lits e)
 closes (n ∷ []) lits e p = ⊎_elim nil one (cases_eq n.variable 0)
   where

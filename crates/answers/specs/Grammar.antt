@@ -1,6 +1,6 @@
 -- How an answer is written, and what its literals say: nothing here tells how a text is read.
 use Rattle.std.specs.Prelude.{◌≡◌, ℕ, ◌+◌, ◌<◌, ◌≤◌, cond, List, [], ◌∷◌, ◌++◌, map, length, ◌==◌, ◌≢◌}
-use Rattle.std.specs.List.{flat_map, AllByRecursion as All}
+use Rattle.std.specs.List.{flat_map, AllByRecursion}
 use Rattle.std.specs.Int.Digits.{digits_of}
 use Rattle.cnf.specs.Clauses.{asserted}
 use Rattle.cnf.specs.declared.clause.Literal.{Literal}
@@ -30,9 +30,9 @@ nought = asserted 0
 pub record Written (ls : List (List ℕ)) (lits : List Literal) : Type 0 where
   pub groups : List (List Literal)
   pub each_line : ls ≡ map v_line groups
-  pub each_some : All (λ ns. 0 < length ns) groups
+  pub each_some : AllByRecursion (λ ns. 0 < length ns) groups
   pub together : flat_map (λ ns. ns) groups ≡ lits ++ nought ∷ []
-  pub no_zero : All (λ n. 0 < n.variable) lits
+  pub no_zero : AllByRecursion (λ n. 0 < n.variable) lits
 
 -- the lines after a verdict
 abbrev pub Follows : Verdict → List (List ℕ) → List Literal → Type 0
@@ -52,11 +52,11 @@ pub record Says (text : List ℕ) (w : Verdict) (lits : List Literal) : Type 0 w
 -- no variable stands in two literals
 abbrev pub Distinct : List Literal → Type 0
 Distinct [] = Unit {0}
-Distinct (n ∷ ns) = All (λ m. m.variable ≢ n.variable) ns × Distinct ns
+Distinct (n ∷ ns) = AllByRecursion (λ m. m.variable ≢ n.variable) ns × Distinct ns
 
 -- each variable is 1 to v and new
 abbrev pub Sound : ℕ → List Literal → Type 0
-Sound v lits = All (λ n. (1 ≤ n.variable) × (n.variable ≤ v)) lits × Distinct lits
+Sound v lits = AllByRecursion (λ n. (1 ≤ n.variable) × (n.variable ≤ v)) lits × Distinct lits
 
 -- the variable has a literal
 abbrev pub Named : ℕ → List Literal → Type 0

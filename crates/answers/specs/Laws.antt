@@ -1,6 +1,6 @@
 -- What is read is what is written: the questions and the values, in the words of the grammar.
 use Rattle.std.specs.Prelude.{◌≡◌, ℕ, suc, ◌<◌, true, false, ◌↔◌, List, [], ◌∷◌, ◌++◌, length, Some, Result, slice_index}
-use Rattle.std.specs.List.{AllByRecursion as All}
+use Rattle.std.specs.List.{AllByRecursion}
 use Rattle.cnf.specs.declared.clause.Literal.{Literal}
 use Rattle.text.specs.Split.{lines, kept, words}
 use Rattle.text.specs.Laws.{page}
@@ -19,8 +19,8 @@ Proper n = n.positive ≡ false → 0 < n.variable
 
 -- a line is read as the numbers ns just where it is the v line of ns
 pub record LineLaw : Type 0 where
-  pub reads : (ns : List Literal) → 0 < length ns → All Proper ns → after_v (words (v_line ns)) ≡ Some ns
-  pub only : (l : List ℕ) (ns : List Literal) → after_v (words l) ≡ Some ns → (l ≡ v_line ns) × (0 < length ns) × All Proper ns
+  pub reads : (ns : List Literal) → 0 < length ns → AllByRecursion Proper ns → after_v (words (v_line ns)) ≡ Some ns
+  pub only : (l : List ℕ) (ns : List Literal) → after_v (words l) ≡ Some ns → (l ≡ v_line ns) × (0 < length ns) × AllByRecursion Proper ns
 
 -- lines have just those literals that they write
 abbrev pub LiteralsLaw : Type 0
@@ -38,7 +38,7 @@ told lits = page (verdict_line Satisfiable ∷ v_line (lits ++ nought ∷ []) �
 
 -- it says them: there is an answer for every list of literals
 abbrev pub ToldLaw : Type 0
-ToldLaw = (lits : List Literal) → All (λ n. 0 < n.variable) lits → Says (told lits) Satisfiable lits
+ToldLaw = (lits : List Literal) → AllByRecursion (λ n. 0 < n.variable) lits → Says (told lits) Satisfiable lits
 
 -- what 47 and 48 ask
 abbrev pub SoundLaw : Type 0
@@ -49,7 +49,7 @@ TotalLaw = (v : ℕ) (lits : List Literal) → (complete v lits ≡ true) ↔ To
 
 -- the bytes that are written say what the literals say, and the judge reads each literal as true there
 pub record ValuesLaw : Type 0 where
-  pub each_literal : (v : ℕ) (lits : List Literal) → Sound v lits → All (λ n. value lits n.variable ≡ Some n.positive) lits
+  pub each_literal : (v : ℕ) (lits : List Literal) → Sound v lits → AllByRecursion (λ n. value lits n.variable ≡ Some n.positive) lits
   pub each-byte : (v : ℕ) (lits : List Literal) (rest : List ℕ) (i : ℕ) → i < v → slice_index (bytes v lits ++ rest) i ≡ bit (value lits (suc i))
   pub all_true : (v : ℕ) (lits : List Literal) (rest : List ℕ) → Sound v lits → MakesTrue (bytes v lits ++ rest) lits
 

@@ -1,6 +1,6 @@
 -- What each answer means, in the words of the grammar.
 use Rattle.std.specs.Prelude.{◌≡◌, ℕ, ◌<◌, ◌≤◌, true, List, [], ◌++◌, length, drop, Ok, Err, Result}
-use Rattle.std.specs.List.{AllByRecursion as All}
+use Rattle.std.specs.List.{AllByRecursion}
 use Rattle.cnf.specs.Clauses.{truth}
 use Rattle.cnf.specs.declared.clause.Literal.{Literal}
 use Rattle.sinks.specs.Models.{assigned}
@@ -28,7 +28,7 @@ Means v text room (Ok Unsatisfiable) = Fits v text room × Says text Unsatisfiab
 
 -- the assignment of an area makes each literal true
 abbrev pub MakesTrue : List ℕ → List Literal → Type 0
-MakesTrue area lits = All (λ n. truth (assigned area) n ≡ true) lits
+MakesTrue area lits = AllByRecursion (λ n. truth (assigned area) n ≡ true) lits
 
 -- The area after SATISFIABLE: the first v bytes are the values, 1 for true and 0 for false, and every other byte is as it was.
 -- So the area makes each literal of the text true.

@@ -1,5 +1,5 @@
 -- What a sink means, and what an accepted clause changes.
-use Rattle.std.specs.Prelude.{◌≡◌, ℕ, ◌+◌, ◌≤◌, Bool, true, false, cond, not, ◌&&◌, List, [], ◌∷◌, length, Result}
+use Rattle.std.specs.Prelude.{◌≡◌, ℕ, ◌+◌, ◌≤◌, Bool, ◌&&◌, length, Result}
 use Rattle.cnf.specs.declared.refusal.Refusal.{Refusal}
 use Rattle.cnf.specs.Clauses.{Assignment, Clause, sat}
 use Rattle.cnf.specs.Refusals.{verdict}

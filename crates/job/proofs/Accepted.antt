@@ -1,7 +1,7 @@
 -- What is known once a call's own questions are answered yes.
-use Rattle.std.proofs.Common.{◌≡◌, ℕ, zero, suc, ◌-◌, ◌<◌, ◌≤◌, Bool, true, false, cond, ◌&&◌, eqb, ltb, leb, List, [], ◌∷◌, ◌++◌, length, get_or, Some, None, Ok, Err, Option, Result, sym, refl, ap, ◌∙◌, subst, arith}
+use Rattle.std.proofs.Common.{◌≡◌, ℕ, zero, suc, ◌-◌, ◌<◌, ◌≤◌, Bool, true, false, cond, List, [], ◌∷◌, length, get_or, Some, None, Ok, Err, Option, sym, refl, ap, ◌∙◌, arith}
 use Rattle.std.proofs.lemmas.Bool.{and_parts, and_from, leb-true, ltb-true, le-leb}
-use Rattle.std.specs.List.{AllByRecursion as All}
+use Rattle.std.specs.List.{AllByRecursion}
 use Rattle.cnf.specs.Questions.{Question, first_no}
 use Rattle.cnf.specs.Sinks.{Model}
 use Rattle.mtl.specs.declared.row.Row.{Row}
@@ -11,9 +11,8 @@ use Rattle.mtl.specs.Fields.{rows_with}
 use Rattle.mtl.specs.Tables.{is_new, fits_after}
 use Rattle.job.specs.declared.refusal.Refusal.{Refusal}
 use Rattle.job.specs.declared.call.Call.{Call}
-use Rattle.job.specs.declared.call.Reply.{Reply}
 use Rattle.job.specs.declared.job.Job.{Job}
-use Rattle.job.specs.Calls.{State, Answer, asks, list, after, reply_of, row_with, low_signal, new_signal, define_asks, require_asks, requirement, sink_asks, highest}
+use Rattle.job.specs.Calls.{State, Answer, asks, list, after, reply_of, row_with, low_signal, new_signal, define_asks, require_asks, sink_asks, highest}
 use Rattle.job.specs.Steps.{known, Step, Finishing}
 use Rattle.job.proofs.Limits.{first_no-join, then_asked}
 
@@ -34,7 +33,7 @@ is_new_from : (rs : List Row) (o : Option ℕ) → low_signal o ≡ true → new
 is_new_from rs None l n = refl
 is_new_from rs (Some a) l n = and_from _ _ l n
 
-get_or_all : {X : Type 0} (P : X → Type 0) (xs : List X) (i : ℕ) (d : X) → All P xs → P d → P (get_or xs i d)
+get_or_all : {X : Type 0} (P : X → Type 0) (xs : List X) (i : ℕ) (d : X) → AllByRecursion P xs → P d → P (get_or xs i d)
 get_or_all P [] i d h p = p
 get_or_all P (x ∷ xs) zero d h p = h.0
 get_or_all P (x ∷ xs) (suc i) d h p = get_or_all P xs i d h.1 p

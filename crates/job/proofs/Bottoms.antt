@@ -1,9 +1,9 @@
 -- What a chain of clauses does to a writer and to a judge.
-use Rattle.std.proofs.Common.{◌≡◌, ℕ, ◌+◌, ◌≤◌, Bool, true, false, cond, ◌&&◌, eqb, ◌↔◌, List, [], ◌∷◌, ◌++◌, length, take, Some, sym, refl, ap, ◌∙◌, subst, arith, length-append}
-use Rattle.std.proofs.lemmas.Bool.{ne_eqb, eq-eqb, eqb-true, and_from}
+use Rattle.std.proofs.Common.{◌≡◌, ℕ, ◌+◌, Bool, true, false, cond, eqb, ◌↔◌, List, [], ◌∷◌, length, take, sym, refl, ap, ◌∙◌, subst, arith, length-append}
+use Rattle.std.proofs.lemmas.Bool.{eq-eqb, eqb-true, and_from}
 use Rattle.std.proofs.lemmas.Bool.Decides.{nat_tests}
 use Rattle.std.specs.List.{flat_map}
-use Rattle.cnf.specs.Clauses.{Assignment, Clause, Clauses, negated, sat, sat_all, in_range, all_in_range}
+use Rattle.cnf.specs.Clauses.{Assignment, Clauses, negated, sat, sat_all, in_range, all_in_range}
 use Rattle.cnf.specs.Sinks.{Model}
 use Rattle.cnf.specs.Layers.{switch_model}
 use Rattle.cnf.specs.declared.switch.Switch.{Switch}
@@ -13,7 +13,6 @@ use Rattle.sinks.specs.Lines.{line, over, read, all_true}
 use Rattle.sinks.specs.Models.{writer_model, judge_model, NewWriter, NewJudge, assigned, first_fault}
 use Rattle.sinks.proofs.Over.{over_none, over_next, take-over}
 use Rattle.sinks.proofs.Reading.{read-lines}
-use Rattle.mtl.specs.Statements.{Obeys}
 use Rattle.mtl.proofs.Witness.{satisfiable}
 use Rattle.job.specs.declared.call.Call.{Call}
 use Rattle.job.specs.declared.call.Exchange.{Exchange}
@@ -21,9 +20,9 @@ use Rattle.job.specs.declared.bottom.Written.{Written}
 use Rattle.job.specs.Calls.{State, Answer, fresh, highest}
 use Rattle.job.specs.Drives.{calls_of, Drove}
 use Rattle.job.specs.Feeding.{Chain}
-use Rattle.job.specs.Runs.{Ran, written, Possible, Shows, Promise}
+use Rattle.job.specs.Runs.{written, Possible, Promise}
 use Rattle.job.specs.Bottoms.{LinesStand, WroteRules, WrotePiled, JudgedRules, behind, first_false}
-use Rattle.job.proofs.RunLaws.{lists, Good, good_fresh, ran_good, ran_lists, begun_is}
+use Rattle.job.proofs.RunLaws.{lists, good_fresh, ran_good, ran_lists, begun_is}
 
 -- what a writer that took the clauses holds
 pub record Holds (cs : Clauses) (w v : Writer) : Type 0 where

@@ -1,5 +1,5 @@
 -- One call more of a list of exchanges.
-use Rattle.std.proofs.Common.{◌≡◌, ℕ, suc, ◌+◌, ◌<◌, ◌≤◌, List, [], ◌∷◌, ◌++◌, map, length, get_or, take, drop, set, Some, Ok, Err, sym, refl, ap, ◌∙◌, subst, append_assoc, arith, length-append}
+use Rattle.std.proofs.Common.{◌≡◌, ℕ, suc, ◌+◌, ◌<◌, ◌≤◌, List, [], ◌∷◌, ◌++◌, length, get_or, take, drop, set, Some, Ok, Err, sym, refl, ap, ◌∙◌, subst, append_assoc, arith}
 use lib.ListN.{length-map}
 use Rattle.std.proofs.lemmas.List.{drop_more, take_more, get_or_at, set_at, map_push, length_push, length-take-le, take_all, drop_all, append-nil}
 use Rattle.cnf.specs.Sinks.{Model}

@@ -1,12 +1,12 @@
 -- The first no of questions, and what a sink takes that has said yes to the last three.
-use Rattle.std.proofs.Common.{◌≡◌, ℕ, suc, ◌+◌, ◌-◌, ◌*◌, ◌^◌, ◌<◌, ◌≤◌, min, Bool, true, false, cond, ◌&&◌, leb, List, [], ◌∷◌, ◌++◌, reverse, Ok, Err, Result, sym, refl, ap, ◌∙◌, subst, ⊎_elim, arith}
+use Rattle.std.proofs.Common.{◌≡◌, ℕ, ◌≤◌, Bool, true, false, cond, leb, List, [], ◌∷◌, ◌++◌, Ok, Err, Result, sym, refl, ap, ◌∙◌, arith}
 use Rattle.std.proofs.lemmas.Bool.{and_parts, and_from, leb-true, le-leb}
 use Rattle.std.proofs.lemmas.Bool.Decides.{nat_tests}
 use Rattle.cnf.specs.declared.clause.Literal.{Literal}
-use Rattle.cnf.specs.Clauses.{Clause, Clauses, within, in_range, all_in_range, longest_of, cells_of}
+use Rattle.cnf.specs.Clauses.{Clause, Clauses, within, in_range, all_in_range}
 use Rattle.cnf.specs.Questions.{Question, first_no}
 use Rattle.cnf.specs.Sinks.{Model}
-use Rattle.mtl.specs.Statements.{Takes, none_empty}
+use Rattle.mtl.specs.Statements.{Takes}
 use Rattle.job.specs.declared.cost.Cost.{Cost}
 use Rattle.job.specs.Costs.{Costs}
 use Rattle.job.specs.declared.refusal.Refusal.{Refusal}

@@ -1,5 +1,5 @@
 -- The lists that the job hands down are those of its calls.
-use Rattle.std.proofs.Common.{◌≡◌, ℕ, suc, ◌+◌, ◌-◌, ◌*◌, ◌<◌, ◌≤◌, true, cond, [], ◌∷◌, ◌++◌, reverse, length, sym, ap, ◌∙◌, subst, arith}
+use Rattle.std.proofs.Common.{◌≡◌, ℕ, suc, ◌+◌, ◌-◌, ◌*◌, ◌<◌, ◌≤◌, true, cond, [], ◌∷◌, reverse, length, sym, ap, ◌∙◌, subst, arith}
 use Rattle.cnf.specs.Clauses.{Clauses}
 use Rattle.mtl.specs.declared.row.Row.{Row}
 use Rattle.mtl.specs.declared.requirement.Requirement.{Requirement}

@@ -1,25 +1,23 @@
 -- What a list of calls comes to.
-use Rattle.std.proofs.Common.{◌≡◌, ℕ, ◌+◌, ◌<◌, ◌≤◌, Bool, true, false, cond, not, ◌&&◌, ◌↔◌, List, [], ◌∷◌, ◌++◌, reverse, length, Ok, Err, sym, refl, ap, ◌∙◌, subst, ⊎_elim, append_assoc, arith}
-use Rattle.std.proofs.lemmas.List.{append-nil, length_push}
+use Rattle.std.proofs.Common.{◌≡◌, ℕ, ◌<◌, ◌≤◌, Bool, true, false, cond, ◌&&◌, ◌↔◌, List, [], ◌∷◌, ◌++◌, reverse, length, Ok, Err, sym, refl, ap, ◌∙◌, subst, ⊎_elim, arith}
+use Rattle.std.proofs.lemmas.List.{length_push}
 use Rattle.std.proofs.lemmas.Bool.{and_parts, and_from, cases_Bool, not-true, both_ways}
-use Rattle.cnf.specs.Clauses.{Assignment, Clauses, sat, sat_all}
-use Rattle.cnf.specs.Questions.{Question, first_no}
+use Rattle.cnf.specs.Clauses.{Assignment, Clauses, sat_all}
+use Rattle.cnf.specs.Questions.{Question}
 use Rattle.cnf.specs.Sinks.{Model}
 use Rattle.mtl.specs.declared.row.Row.{Row}
 use Rattle.mtl.specs.declared.requirement.Requirement.{Requirement}
 use Rattle.mtl.specs.Shapes.{given, unit}
 use Rattle.mtl.specs.Lists.{begin, block, clauses, start}
-use Rattle.mtl.specs.Tables.{lawful, Asked, requires, job, fits_after}
-use Rattle.mtl.specs.Statements.{Obeys, BelongsTo}
+use Rattle.mtl.specs.Tables.{lawful, Asked, requires, job}
 use Rattle.mtl.proofs.Exact.{exact}
 use Rattle.mtl.proofs.Grown.{grown}
 use Rattle.mtl.proofs.Tables.{lawful_push}
 use Rattle.job.specs.declared.call.Call.{Call}
 use Rattle.job.specs.declared.call.Call.TheVariants.{Begin, Define, Require}
-use Rattle.job.specs.declared.refusal.Refusal.{Refusal}
-use Rattle.job.specs.Calls.{State, Answer, fresh, asks, list, after, answer_to, questions, sink_asks, highest, row_with, requirement, define_list, require_list, with_row}
+use Rattle.job.specs.Calls.{State, Answer, fresh, asks, list, after, answer_to, questions, row_with, requirement, define_list, require_list, with_row}
 use Rattle.job.specs.Feeding.{TakenAll, taken_none, taken_join, sat_all-++}
-use Rattle.job.specs.Runs.{then_knows, handed, Move, Ran, none, more, written, Shows, Promise}
+use Rattle.job.specs.Runs.{then_knows, handed, Ran, none, more, written, Shows, Promise}
 use Rattle.job.proofs.Accepted.{Yes, all_yes, define_yes, require_yes}
 
 -- the clauses of what a job knows

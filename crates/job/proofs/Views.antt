@@ -1,5 +1,5 @@
 -- A sink that is seen through a function of its value.
-use Rattle.std.proofs.Common.{◌≡◌, ℕ, ◌+◌, ◌/◌, Bool, true, ◌&&◌, List, [], ◌∷◌, length, sym, refl, ap, ◌∙◌, subst, arith}
+use Rattle.std.proofs.Common.{◌≡◌, ◌+◌, ◌/◌, ◌&&◌, [], ◌∷◌, length, sym, refl, ap, ◌∙◌, arith}
 use Rattle.cnf.specs.Clauses.{Assignment, Clause, Clauses, negated, sat_all}
 use Rattle.cnf.specs.Sinks.{Model}
 use Rattle.cnf.specs.Layers.{lent_model, switch_model, switch_longest, usable}

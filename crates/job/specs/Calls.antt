@@ -1,5 +1,5 @@
 -- What each call asks, hands down and changes, by what the job knows.
-use Rattle.std.specs.Prelude.{ℕ, ◌+◌, ◌-◌, Bool, true, false, cond, not, ◌&&◌, ◌||◌, List, [], ◌∷◌, ◌++◌, reverse, length, Some, None, Ok, Err, Option, Result, ◌==◌, nat_le, nat_lt, slice_index_or}
+use Rattle.std.specs.Prelude.{ℕ, ◌-◌, Bool, true, false, cond, not, ◌&&◌, ◌||◌, List, [], ◌∷◌, ◌++◌, reverse, length, Some, None, Option, Result, ◌==◌, nat_le, nat_lt, slice_index_or}
 use Rattle.cnf.specs.Clauses.{Clauses, longest_of, cells_of}
 use Rattle.cnf.specs.Questions.{Question, ask, first_no}
 use Rattle.cnf.specs.Sinks.{Model}

@@ -1,5 +1,5 @@
 -- A sink that takes a list of clauses, one after another.
-use Rattle.std.specs.Prelude.{◌≡◌, ℕ, ◌+◌, ◌≤◌, max, Bool, true, false, ◌&&◌, List, [], ◌∷◌, ◌++◌, length, refl}
+use Rattle.std.specs.Prelude.{◌≡◌, ℕ, ◌+◌, ◌≤◌, max, Bool, true, false, ◌&&◌, [], ◌∷◌, ◌++◌, length, refl}
 use Rattle.std.proofs.Common.{sym, ap, subst, ◌∙◌, arith, length-append}
 use Rattle.cnf.specs.Clauses.{Assignment, Clause, Clauses, sat, sat_all, cells_of, longest_of, in_range, all_in_range}
 use Rattle.cnf.specs.Sinks.{Model}

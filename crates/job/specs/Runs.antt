@@ -1,5 +1,5 @@
 -- A list of calls on a job over any sink, and what it comes to.
-use Rattle.std.specs.Prelude.{◌≡◌, Bool, true, ◌↔◌, List, [], ◌∷◌, ◌++◌, Ok, Err}
+use Rattle.std.specs.Prelude.{◌≡◌, true, ◌↔◌, List, [], ◌∷◌, ◌++◌, Ok, Err}
 use Rattle.cnf.specs.Clauses.{Assignment, Clauses}
 use Rattle.cnf.specs.Sinks.{Model}
 use Rattle.mtl.specs.Runs.{Run}

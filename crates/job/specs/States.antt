@@ -1,5 +1,5 @@
 -- What the job's structs hold.
-use Rattle.std.specs.Prelude.{◌≡◌, ℕ, ◌+◌, ◌<◌, ◌≤◌, List, reverse, length, take}
+use Rattle.std.specs.Prelude.{◌≡◌, ◌<◌, ◌≤◌, reverse, take}
 use Rattle.mtl.specs.declared.row.Row.{Row}
 use Rattle.mtl.specs.Rows.{first, second}
 use Rattle.mtl.specs.Layout.{rows_of}

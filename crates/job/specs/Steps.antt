@@ -1,5 +1,5 @@
 -- One call on a job over any sink.
-use Rattle.std.specs.Prelude.{◌≡◌, ℕ, List, length, Ok, Err, Result}
+use Rattle.std.specs.Prelude.{◌≡◌, ℕ, length, Ok, Err, Result}
 use Rattle.cnf.specs.Clauses.{Clauses}
 use Rattle.cnf.specs.Questions.{first_no}
 use Rattle.cnf.specs.Sinks.{Model}

@@ -2,7 +2,7 @@
 use Rattle.std.proofs.Common.{◌≡◌, ℕ, zero, suc, ◌+◌, ◌-◌, ◌*◌, ◌%◌, ◌<◌, ◌≤◌, Bool, true, false, cond, leb, List, [], ◌∷◌, ◌++◌, map, reverse, length, sym, refl, subst, ⊎_elim, mod-lt, arith}
 use Rattle.std.proofs.lemmas.Bool.{cases_lt, le-leb, lt-leb, and_from}
 use Rattle.std.proofs.lemmas.List.{length-reverse}
-use Rattle.std.specs.List.{AllByRecursion as All}
+use Rattle.std.specs.List.{AllByRecursion}
 use Rattle.std.proofs.ByRecursion.{All-append}
 use Rattle.cnf.specs.declared.clause.Literal.{Literal}
 use Rattle.cnf.specs.Clauses.{Clause, Clauses, opposite, within, in_range, all_in_range}
@@ -23,10 +23,10 @@ Ok n p = (0 < p.variable) × (p.variable < n)
 -- a clause of such literals that is not empty
 abbrev pub Sound : ℕ → Clause → Type 0
 Sound n [] = ⊥
-Sound n (p ∷ ps) = Ok n p × All (Ok n) ps
+Sound n (p ∷ ps) = Ok n p × AllByRecursion (Ok n) ps
 
 abbrev pub Uses : ℕ → Clauses → Type 0
-Uses n cs = All (Sound n) cs
+Uses n cs = AllByRecursion (Sound n) cs
 
 module _ (n : ℕ) where
   uses-++ : (cs ds : Clauses) → Uses n cs → Uses n ds → Uses n (cs ++ ds)
@@ -36,7 +36,7 @@ module _ (n : ℕ) where
   uses_when g [] o u = tt
   uses_when g (c ∷ cs) o u = ((o, literals c u.0), uses_when g cs o u.1)
     where
-      literals : (c : Clause) → Sound n c → All (Ok n) c
+      literals : (c : Clause) → Sound n c → AllByRecursion (Ok n) c
       literals [] u = tt
       literals (p ∷ ps) u = u
 
@@ -47,21 +47,21 @@ module _ (n : ℕ) where
   uses_each : (f : ℕ → Clauses) (m : ℕ) → ((i : ℕ) → i < m → Uses n (f i)) → Uses n (each 0 m f)
   uses_each f m h = uses_from f 0 m (λ i c d. h i (omega arith))
 
-  uses_any : (x : Literal) (gs : List Literal) → Ok n x → All (Ok n) gs → Uses n (any x gs)
+  uses_any : (x : Literal) (gs : List Literal) → Ok n x → AllByRecursion (Ok n) gs → Uses n (any x gs)
   uses_any x gs o u = ((o, u), rest gs u)
     where
-      rest : (gs : List Literal) → All (Ok n) gs → Uses n (map (λ g. x ∷ opposite g ∷ []) gs)
+      rest : (gs : List Literal) → AllByRecursion (Ok n) gs → Uses n (map (λ g. x ∷ opposite g ∷ []) gs)
       rest [] u = tt
       rest (g ∷ gs) u = ((o, (u.0, tt)), rest gs u.1)
 
-  uses_all : (x : Literal) (gs : List Literal) → Ok n x → All (Ok n) gs → Uses n (all x gs)
+  uses_all : (x : Literal) (gs : List Literal) → Ok n x → AllByRecursion (Ok n) gs → Uses n (all x gs)
   uses_all x gs o u = uses-++ (map (λ g. opposite x ∷ g ∷ []) gs) ((x ∷ map opposite gs) ∷ []) (rest gs u) ((o, turn gs u), tt)
     where
-      rest : (gs : List Literal) → All (Ok n) gs → Uses n (map (λ g. opposite x ∷ g ∷ []) gs)
+      rest : (gs : List Literal) → AllByRecursion (Ok n) gs → Uses n (map (λ g. opposite x ∷ g ∷ []) gs)
       rest [] u = tt
       rest (g ∷ gs) u = ((o, (u.0, tt)), rest gs u.1)
 
-      turn : (gs : List Literal) → All (Ok n) gs → All (Ok n) (map opposite gs)
+      turn : (gs : List Literal) → AllByRecursion (Ok n) gs → AllByRecursion (Ok n) (map opposite gs)
       turn [] u = tt
       turn (g ∷ gs) u = (u.0, turn gs u.1)
 
@@ -69,11 +69,11 @@ module _ (n : ℕ) where
   ok_given true p o = o
   ok_given false p o = o
 
-  ok_span : (f : Lits) (i m : ℕ) → ((j : ℕ) → i ≤ j → j < i + m → Ok n (f j)) → All (Ok n) (span f i m)
+  ok_span : (f : Lits) (i m : ℕ) → ((j : ℕ) → i ≤ j → j < i + m → Ok n (f j)) → AllByRecursion (Ok n) (span f i m)
   ok_span f i zero h = tt
   ok_span f i (suc m) h = (h i (omega arith) (omega arith), ok_span f (suc i) m (λ j c d. h j (omega arith) (omega arith)))
 
-  ok_down : (f : Lits) (i t : ℕ) → ((j : ℕ) → j ≤ i → Ok n (f j)) → All (Ok n) (down f i t)
+  ok_down : (f : Lits) (i t : ℕ) → ((j : ℕ) → j ≤ i → Ok n (f j)) → AllByRecursion (Ok n) (down f i t)
   ok_down f i zero h = (h i (omega arith), tt)
   ok_down f zero (suc t) h = (h 0 (omega arith), tt)
   ok_down f (suc i) (suc t) h = (h (suc i) (omega arith), ok_down f i t (λ j c. h j (omega arith)))
@@ -244,7 +244,7 @@ module _ (n : ℕ) where
     uses_requires rs [] g o = tt
     uses_requires rs (q ∷ qs) g o = ((ok_given q.value (value k rs q.row q.instant) (ok_value rs g q.row o.0 q.instant o.1), tt), uses_requires rs qs g o.2)
 
-in_range_from : (n : ℕ) (c : Clause) → All (Ok n) c → in_range (n - 1) c ≡ true
+in_range_from : (n : ℕ) (c : Clause) → AllByRecursion (Ok n) c → in_range (n - 1) c ≡ true
 in_range_from n [] u = refl
 in_range_from n (p ∷ ps) u =
     and_from (within (n - 1) p) (in_range (n - 1) ps)

@@ -2,7 +2,6 @@
 use Rattle.std.proofs.Common.{◌≡◌, ℕ, zero, suc, ◌+◌, ◌*◌, ◌^◌, ◌<◌, ◌≤◌, List, [], ◌∷◌, ◌++◌, length, get_or, take, codes, decimal, sym, refl, ap, ◌∙◌, append_assoc, add-zero, arith, length-append}
 use Rattle.std.proofs.lemmas.List.{take_more, length-take-le, append-nil}
 use Rattle.std.proofs.lemmas.Fmt.{length-decimal-le}
-use Rattle.sinks.specs.Lines.{pair_line}
 use Rattle.sinks.proofs.Over.{pair_long}
 use Rattle.report.specs.declared.outcome.Notice.{Notice}
 use Rattle.report.specs.declared.outcome.ShownRun.{ShownRun}

@@ -2,7 +2,7 @@
 use Rattle.std.proofs.Common.{◌≡◌, ℕ, ◌+◌, ◌≤◌, Bool, true, false, cond, List, [], ◌∷◌, map, length, is_ok, Ok, Err, sym, ap, subst, arith}
 use Rattle.std.proofs.lemmas.List.{length_push}
 use Rattle.std.proofs.lemmas.Bool.{not-true, false≢true}
-use Rattle.std.specs.List.{AllByRecursion as All}
+use Rattle.std.specs.List.{AllByRecursion}
 use Rattle.cnf.specs.Sinks.{Model}
 use Rattle.job.specs.declared.call.Call.{Call}
 use Rattle.job.specs.declared.call.Call.TheVariants.{Begin, Define, Require}
@@ -52,13 +52,13 @@ module _ {S : Type 0} (m : Model S) where
   one_accepted k s c (Ok r) e ok room = one_more s c (accepted_yes m k s c r e) room
   one_accepted k s c (Err _) e ok room = absurd (false≢true ok)
 
-  all_accepted : {k k' : S} {s s' : State} {cs : List Call} {rs : List Answer} → Ran m k s cs rs k' s' → All (λ a. is_ok a ≡ true) rs → Room s → length cs + accepted s ≤ 97
+  all_accepted : {k k' : S} {s s' : State} {cs : List Call} {rs : List Answer} → Ran m k s cs rs k' s' → AllByRecursion (λ a. is_ok a ≡ true) rs → Room s → length cs + accepted s ≤ 97
   all_accepted (none {s = s}) oks room = omega (arith, room_for s room)
   all_accepted (more {k} {s = s} {c = c} {a = a} move rest) (ok, oks) room =
       let next = subst (OneMore s) (sym move.knows) (one_accepted k s c a move.answer ok room) in
       omega (arith, all_accepted rest oks next.0, next.1)
 
-  pub at_most_97 : {k k' : S} {s : State} {cs : List Call} {rs : List Answer} → Ran m k fresh cs rs k' s → All (λ a. is_ok a ≡ true) rs → length cs ≤ 97
+  pub at_most_97 : {k k' : S} {s : State} {cs : List Call} {rs : List Answer} → Ran m k fresh cs rs k' s → AllByRecursion (λ a. is_ok a ≡ true) rs → length cs ≤ 97
   at_most_97 ran oks = omega (arith, all_accepted ran oks (omega arith, omega arith))
 
 -- the line of a call
@@ -70,6 +70,6 @@ short (Begin _) = omega arith
 short (Define code a b t) = omega arith
 short (Require row instant value) = omega arith
 
-pub all_short : (cs : List Call) → All Short (map written_call cs)
+pub all_short : (cs : List Call) → AllByRecursion Short (map written_call cs)
 all_short [] = tt
 all_short (c ∷ cs) = (short c, all_short cs)

@@ -3,7 +3,7 @@ use Rattle.std.proofs.Common.{◌≡◌, ℕ, suc, ◌+◌, ◌*◌, ◌<◌, �
 use lib.ListN.{length-map}
 use Rattle.std.proofs.lemmas.List.{append-nil, take-append-drop, take_all, length-take-le}
 use Rattle.std.proofs.lemmas.Bool.{and_left, and_right, lt-leb, cond-false, cases_lt}
-use Rattle.std.specs.List.{AllByRecursion as All}
+use Rattle.std.specs.List.{AllByRecursion}
 use Rattle.cnf.specs.Sinks.{Model}
 use Rattle.text.specs.Split.{start, lines}
 use Rattle.frames.specs.declared.refusals.Refusal.TheVariants.{Digits}
@@ -42,7 +42,7 @@ alike (b ∷ bs) q q' = at (eqb b 10) (alike bs q q')
     at false a = alike_start b (length bs) (lines (bs ++ q)) (lines (bs ++ q')) a
 
 -- behind short lines that have fewer bytes than are the same
-behind : (a rest ms : List (List ℕ)) (n : ℕ) → All Short a → 15 * length a < n → Alike n (a ++ rest) ms → (rest' : List (List ℕ)) × (j : ℕ) × (ms ≡ a ++ rest') × (n ≤ 15 * length a + j) × Alike j rest rest'
+behind : (a rest ms : List (List ℕ)) (n : ℕ) → AllByRecursion Short a → 15 * length a < n → Alike n (a ++ rest) ms → (rest' : List (List ℕ)) × (j : ℕ) × (ms ≡ a ++ rest') × (n ≤ 15 * length a + j) × Alike j rest rest'
 behind [] rest ms n short h e = (ms, n, refl, omega arith, e)
 behind (l ∷ a) rest [] n short h e = absurd (omega arith)
 behind (l ∷ a) rest (k ∷ ms) n (short, shorts) h (inl (p, q)) = absurd (omega arith)

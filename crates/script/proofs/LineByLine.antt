@@ -2,30 +2,28 @@
 use Rattle.std.proofs.Common.{◌≡◌, ℕ, ◌+◌, true, List, [], ◌∷◌, ◌++◌, map, length, is_ok, Ok, Err, Result, sym, refl, ap, ◌∙◌, subst, append_assoc}
 use Rattle.std.proofs.lemmas.List.{map_push, length_push}
 use Rattle.std.proofs.ByRecursion.{All-push}
-use Rattle.std.specs.List.{AllByRecursion as All}
+use Rattle.std.specs.List.{AllByRecursion}
 use Rattle.cnf.specs.Sinks.{Model}
 use Rattle.job.specs.declared.call.Call.{Call}
 use Rattle.text.specs.Split.{lines}
 use Rattle.calls.specs.Lines.{calling, written_call}
-use Rattle.job.specs.declared.call.Reply.{Reply}
 use Rattle.job.specs.declared.job.Job.{Job}
-use Rattle.job.specs.Calls.{State, Answer, fresh}
-use Rattle.job.specs.Runs.{Ran, none, more}
-use Rattle.job.specs.Steps.{known, Step}
+use Rattle.job.specs.Calls.{Answer}
+use Rattle.job.specs.Runs.{Ran, none}
+use Rattle.job.specs.Steps.{known}
 use Rattle.job.proofs.Driving.{move_of, ran_push}
-use Rattle.job.proofs.RunLaws.{promised}
 use Rattle.script.specs.declared.refusal.Refusal.{Refusal}
 use Rattle.script.specs.declared.refusal.Stop.{Stop}
-use Rattle.script.specs.Scripts.{LinePerformed, Ended, ScriptRan, DroveScript}
+use Rattle.script.specs.Scripts.{LinePerformed, Ended, ScriptRan}
 
 -- the first n lines of the text are performed, and the text left has the others
 abbrev pub SoFar : {S : Type 0} → Model S → Job S → List ℕ → ℕ → List ℕ → Job S → Type 0
 SoFar m j text n left k =
     (cs : List Call)
     × (rs : List Answer)
-    × All (λ a. is_ok a ≡ true) rs
+    × AllByRecursion (λ a. is_ok a ≡ true) rs
     × (lines text ≡ map written_call cs ++ lines left)
-    × All (λ c. calling (written_call c) ≡ Ok c) cs
+    × AllByRecursion (λ c. calling (written_call c) ≡ Ok c) cs
     × Ran m j.sink (known j) cs rs k.sink (known k)
     × (n ≡ length cs)
 

@@ -1,8 +1,8 @@
 -- A script that is accepted whole has one list of calls, and a job knows by it what it knows in the end.
-use Rattle.std.proofs.Common.{◌≡◌, ℕ, true, false, List, [], ◌∷◌, ◌++◌, map, length, is_ok, Ok, Err, Result, sym, refl, ap, ◌∙◌, subst, arith}
+use Rattle.std.proofs.Common.{◌≡◌, ℕ, true, List, [], ◌∷◌, ◌++◌, map, length, is_ok, Ok, Err, Result, sym, refl, ap, ◌∙◌, arith}
 use Rattle.std.proofs.lemmas.List.{append-nil}
 use Rattle.std.proofs.lemmas.Bool.{true≢false}
-use Rattle.std.specs.List.{AllByRecursion as All}
+use Rattle.std.specs.List.{AllByRecursion}
 use Rattle.cnf.specs.Sinks.{Model}
 use Rattle.job.specs.declared.call.Call.{Call}
 use Rattle.text.specs.Split.{lines}
@@ -10,12 +10,11 @@ use Rattle.frames.specs.declared.refusals.Refusal.{Refusal as LineRefusal}
 use Rattle.calls.specs.Lines.{calling, written_call}
 use Rattle.job.specs.Calls.{State, Answer, fresh}
 use Rattle.job.specs.Runs.{Ran, none, more}
-use Rattle.script.specs.declared.refusal.Stop.{Stop}
 use Rattle.script.specs.Scripts.{Ended, ScriptRan}
 use Rattle.script.specs.Same.{all_after, SameScript}
 
 -- a job knows that after calls that are all accepted
-all_accepted : {S : Type 0} (m : Model S) {k k' : S} {s s' : State} {cs : List Call} {rs : List Answer} → Ran m k s cs rs k' s' → All (λ a. is_ok a ≡ true) rs → s' ≡ all_after s cs
+all_accepted : {S : Type 0} (m : Model S) {k k' : S} {s s' : State} {cs : List Call} {rs : List Answer} → Ran m k s cs rs k' s' → AllByRecursion (λ a. is_ok a ≡ true) rs → s' ≡ all_after s cs
 all_accepted m none ok = refl
 all_accepted m (more {s = s} {c = c} {a = Ok r} {cs = cs} move rest) (ok, oks) = all_accepted m rest oks ∙ ap (λ z. all_after z cs) move.knows
 all_accepted m (more {a = Err e} move rest) (ok, oks) = absurd (true≢false (sym ok))
@@ -26,7 +25,7 @@ same_call c d p q e =
     let r : ◌≡◌ {A = Result Call LineRefusal} (Ok c) (Ok d) = sym p ∙ ap calling e ∙ q in
     cc
 
-same_calls : (cs ds : List Call) → All (λ c. calling (written_call c) ≡ Ok c) cs → All (λ c. calling (written_call c) ≡ Ok c) ds → map written_call cs ≡ map written_call ds → cs ≡ ds
+same_calls : (cs ds : List Call) → AllByRecursion (λ c. calling (written_call c) ≡ Ok c) cs → AllByRecursion (λ c. calling (written_call c) ≡ Ok c) ds → map written_call cs ≡ map written_call ds → cs ≡ ds
 same_calls [] [] p q e = refl
 same_calls [] (d ∷ ds) p q e = let z : 0 ≡ length (map written_call (d ∷ ds)) = ap length e in absurd (omega arith)
 same_calls (c ∷ cs) [] p q e = let z : length (map written_call (c ∷ cs)) ≡ 0 = ap length e in absurd (omega arith)

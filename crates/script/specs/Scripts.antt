@@ -1,6 +1,6 @@
 -- A script on a job over any sink: which lines are accepted, where it stops, and what it comes to.
 use Rattle.std.specs.Prelude.{◌≡◌, ℕ, ◌+◌, true, List, [], ◌∷◌, ◌++◌, map, length, is_ok, Ok, Err, Result}
-use Rattle.std.specs.List.{AllByRecursion as All}
+use Rattle.std.specs.List.{AllByRecursion}
 use Rattle.cnf.specs.Clauses.{Clauses}
 use Rattle.cnf.specs.Sinks.{Model}
 use Rattle.job.specs.declared.call.Call.{Call}
@@ -45,12 +45,12 @@ pub record ScriptRan {S : Type 0} (m : Model S) (k : S) (s : State) (text : List
   -- the calls of the accepted lines, and their answers
   pub calls : List Call
   pub answers : List Answer
-  pub accepted : All (λ a. is_ok a ≡ true) answers
+  pub accepted : AllByRecursion (λ a. is_ok a ≡ true) answers
   -- the lines from the first refused one on
   pub rest : List (List ℕ)
   -- the text's lines are those of the calls and then the rest, and each is read as its call
   pub made : lines text ≡ map written_call calls ++ rest
-  pub reads : All (λ c. calling (written_call c) ≡ Ok c) calls
+  pub reads : AllByRecursion (λ c. calling (written_call c) ≡ Ok c) calls
   pub ran : Ran m k s calls answers k' s'
   pub ended : Ended m k' s' (length calls) rest r
 

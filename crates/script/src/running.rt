@@ -4,8 +4,8 @@ ghost use Rattle.job.specs.Steps.{known};
 ghost use Rattle.script.specs.Scripts.{LinePerformed, ScriptRan, DroveScript};
 
 use crate::refusal::{Refusal, Stop};
-use cnf::sink::Sink;
 use calls::lines::call_of;
+use cnf::sink::Sink;
 use job::job::Job;
 use job::state::Setup;
 use text::splitting::split_line;

@@ -10,7 +10,7 @@ use Rattle.mtl.specs.declared.operator.Extra.TheVariants.{Nothing, Seen as SeenE
 use Rattle.mtl.specs.declared.operator.Shape.{Shape}
 use Rattle.mtl.specs.declared.operator.Shape.TheVariants.{Free, Same, Both, Either, Upto, Hold, Any, All}
 use Rattle.mtl.specs.Formula.{Formula, Sat}
-use Rattle.mtl.specs.Rows.{first, second, distance, operator_of, extra_count, extra}
+use Rattle.mtl.specs.Rows.{first, second, distance, operator_of, extra_count}
 use Rattle.mtl.specs.Lists.{block, top}
 use Rattle.mtl.specs.Runs.{lasso, word, formula, Belongs, Sought, ExtraTells, Marks}
 use Rattle.mtl.specs.Tables.{lawful}

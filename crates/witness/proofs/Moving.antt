@@ -11,7 +11,7 @@ use Rattle.mtl.specs.declared.operator.Extra.TheVariants.{Nothing, Seen, Ahead}
 use Rattle.mtl.specs.declared.operator.Shape.{Shape}
 use Rattle.mtl.specs.Formula.{Formula, Word, Course, Sat}
 use Rattle.mtl.specs.Shapes.{Lits}
-use Rattle.mtl.specs.Rows.{first, second, distance, operator_of, operands, extra_count, extra}
+use Rattle.mtl.specs.Rows.{first, second, distance, operator_of, operands, extra_count}
 use Rattle.mtl.specs.Lists.{block, top}
 use Rattle.mtl.specs.Runs.{form, formula, Settled, SettledRow, Belongs, ExtraTells, ExtrasTell}
 use Rattle.mtl.specs.Tables.{Asked, Keeps}

@@ -2,8 +2,7 @@
 #![tactic(auto)]
 
 use calls::{beginning, defining};
-use job::call::Call;
-use job::call::Exchange;
+use job::call::{Call, Exchange};
 use job::drive::drive_lent;
 use job::state::Setup;
 use sinks::judge::Judge;
@@ -85,10 +84,7 @@ fn show_questions(rt: &HostRuntime) -> anyhow::Result<()> {
     let fresh = after(&[], &mut []);
     show_fill(rt, "fill, not begun", &fresh, 0, &[0], 9, 9)?;
     show_run(rt, "run, not begun", &fresh, &[1], 1)?;
-    let setup = after(
-        &[beginning(1), defining(1, 3, 0, 0)],
-        &mut [unasked; 2],
-    );
+    let setup = after(&[beginning(1), defining(1, 3, 0, 0)], &mut [unasked; 2]);
     show_fill(rt, "one letter for two instants", &setup, 0, &[8], 6, 2)?;
     show_fill(rt, "loop start after the bound", &setup, 2, &[8, 0], 6, 2)?;
     show_fill(rt, "a signal without a row", &setup, 0, &[8, 1], 6, 2)?;
@@ -122,20 +118,12 @@ fn show_previous(rt: &HostRuntime) -> anyhow::Result<()> {
         answer: None,
     };
     let short = after(
-        &[
-            beginning(1),
-            defining(1, 0, 0, 0),
-            defining(11, 0, 0, 0),
-        ],
+        &[beginning(1), defining(1, 0, 0, 0), defining(11, 0, 0, 0)],
         &mut [unasked; 3],
     );
     show_fill(rt, "previous, off on", &short, 1, &[0, 1], 8, 4)?;
     let long = after(
-        &[
-            beginning(2),
-            defining(1, 0, 0, 0),
-            defining(11, 0, 0, 0),
-        ],
+        &[beginning(2), defining(1, 0, 0, 0), defining(11, 0, 0, 0)],
         &mut [unasked; 3],
     );
     show_fill(rt, "previous, off on on", &long, 2, &[0, 1, 1], 12, 6)

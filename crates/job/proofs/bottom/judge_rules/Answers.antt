@@ -1,4 +1,4 @@
-use Rattle.std.proofs.Common.{◌≡◌, length, ap, ◌∙◌, rules}
+use Rattle.std.proofs.Common.{ap, ◌∙◌}
 use Rattle.job.proofs.Bottoms.{judged_rules}
 use Rattle.job.proofs.bottom.judge_rules.Goals as goal
 

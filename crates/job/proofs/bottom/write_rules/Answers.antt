@@ -1,4 +1,4 @@
-use Rattle.std.proofs.Common.{◌≡◌, length, sym, ap, ◌∙◌, rules}
+use Rattle.std.proofs.Common.{length, sym, ap, ◌∙◌, rules}
 use Rattle.job.proofs.Bottoms.{wrote_rules}
 use Rattle.job.proofs.bottom.write_rules.Goals as goal
 

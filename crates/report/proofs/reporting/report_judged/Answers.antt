@@ -1,4 +1,4 @@
-use Rattle.std.proofs.Common.{◌≡◌, sym, ◌∙◌, arith}
+use Rattle.std.proofs.Common.{sym, ◌∙◌, arith}
 use Rattle.report.proofs.Verdicts.{shows, asked, told_stop, told_out, told_run}
 use Rattle.report.proofs.reporting.report_judged.Goals as goal
 

@@ -1,4 +1,4 @@
-use Rattle.std.proofs.Common.{sym, refl}
+use Rattle.std.proofs.Common.{refl}
 use Rattle.job.specs.States.{state_of}
 use Rattle.report.proofs.RunShown.{run_told}
 use Rattle.report.proofs.reporting.report_letters.Goals as goal

@@ -1,4 +1,4 @@
-use Rattle.std.proofs.Common.{◌≡◌, ◌+◌, [], ◌∷◌, length, ap, ◌∙◌, arith}
+use Rattle.std.proofs.Common.{◌+◌, [], ◌∷◌, length, ap, ◌∙◌, arith}
 use Rattle.sinks.specs.Lines.{over}
 use Rattle.sinks.proofs.Over.{over_next}
 use Rattle.frames.specs.Layouts.{letter_layout}

@@ -1,8 +1,8 @@
-use Rattle.std.proofs.Common.{◌≡◌, ◌+◌, length, take, sym, ap, ◌∙◌, arith, take_all}
+use Rattle.std.proofs.Common.{take, sym, ap, ◌∙◌, arith, take_all}
 use Rattle.std.proofs.lemmas.List.{length-take-le}
 use Rattle.sinks.specs.Lines.{over}
 use Rattle.sinks.proofs.Over.{over_none, over_next}
-use Rattle.report.specs.Texts.{letter_lines, letter_line}
+use Rattle.report.specs.Texts.{letter_lines}
 use Rattle.report.proofs.Lengths.{lines_long, lines_more}
 use Rattle.report.proofs.telling.put_letters.Goals as goal
 

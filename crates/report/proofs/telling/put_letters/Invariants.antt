@@ -1,4 +1,4 @@
-use Rattle.std.proofs.Common.{◌≡◌, ◌+◌, ◌*◌, length, take}
+use Rattle.std.proofs.Common.{◌≡◌, ◌+◌, ◌*◌, take}
 use Rattle.sinks.specs.Lines.{over}
 use Rattle.report.specs.Texts.{letter_lines}
 use Rattle.report.proofs.telling.put_letters.Given as goal

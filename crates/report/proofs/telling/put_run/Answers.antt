@@ -1,4 +1,4 @@
-use Rattle.std.proofs.Common.{◌≡◌, ◌+◌, ◌-◌, [], ◌∷◌, ◌++◌, length, take, ap, ◌∙◌, arith, length-append}
+use Rattle.std.proofs.Common.{◌≡◌, ◌+◌, ◌-◌, [], ◌∷◌, length, take, ap, ◌∙◌, arith, length-append}
 use Rattle.sinks.specs.Lines.{over}
 use Rattle.sinks.proofs.Over.{over_next}
 use Rattle.frames.specs.Layouts.{run_layout}

@@ -1,4 +1,4 @@
-use Rattle.std.proofs.Common.{◌≡◌, length, sym, ap, ◌∙◌, arith}
+use Rattle.std.proofs.Common.{length, sym, ap, ◌∙◌, arith}
 use Rattle.sinks.specs.Lines.{over}
 use Rattle.report.specs.Texts.{text_of}
 use Rattle.report.proofs.Lengths.{out_short, run_short}

@@ -1,4 +1,4 @@
-use Rattle.std.proofs.Common.{◌≡◌, sym, subst}
+use Rattle.std.proofs.Common.{sym, subst}
 use Rattle.job.specs.States.{state_of}
 use Rattle.script.specs.Scripts.{DroveScript}
 use Rattle.script.proofs.Making.{drove_script}

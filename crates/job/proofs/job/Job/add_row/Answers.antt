@@ -1,4 +1,4 @@
-use Rattle.std.proofs.Common.{◌≡◌, length, Ok, sym, ap, ◌∙◌, subst, arith, rules}
+use Rattle.std.proofs.Common.{length, Ok, sym, subst}
 use Rattle.mtl.specs.Statements.{Takes}
 use Rattle.job.specs.Calls.{define_list, with_row}
 use Rattle.job.specs.Feeding.{Fits, TakenAll}

@@ -1,4 +1,4 @@
-use Rattle.std.proofs.Common.{◌≡◌, sym, ap, ◌∙◌, subst}
+use Rattle.std.proofs.Common.{◌≡◌, sym, subst}
 use Rattle.job.specs.declared.call.Call.TheVariants.{Define}
 use Rattle.job.specs.Calls.{row_with, define_asks}
 use Rattle.job.specs.Steps.{known, Adding}

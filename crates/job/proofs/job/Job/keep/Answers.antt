@@ -1,7 +1,7 @@
-use Rattle.std.proofs.Common.{◌≡◌, ◌-◌, cond, reverse, sym, ap, ◌∙◌, subst}
+use Rattle.std.proofs.Common.{sym, subst}
 use Rattle.mtl.specs.Shapes.{unit}
 use Rattle.mtl.specs.Statements.{Takes}
-use Rattle.job.specs.Calls.{highest, require_list, with_requirement}
+use Rattle.job.specs.Calls.{require_list, with_requirement}
 use Rattle.job.specs.Feeding.{Fits, TakenAll}
 use Rattle.job.specs.Steps.{known}
 use Rattle.job.proofs.Limits.{limits_fit}

@@ -1,4 +1,4 @@
-use Rattle.std.proofs.Common.{◌≡◌, sym, subst, rules}
+use Rattle.std.proofs.Common.{sym, subst}
 use Rattle.mtl.specs.Statements.{Takes}
 use Rattle.mtl.specs.Lists.{begin}
 use Rattle.job.specs.Calls.{with_bound}

@@ -1,4 +1,4 @@
-use Rattle.std.proofs.Common.{◌≡◌, ◌+◌, ◌-◌, reverse, sym, refl, ap, ◌∙◌, arith, rules}
+use Rattle.std.proofs.Common.{◌+◌, ◌-◌, reverse, sym, refl, ap, ◌∙◌, arith, rules}
 use Rattle.mtl.specs.Lists.{start, top}
 use Rattle.job.specs.States.{state_of}
 use Rattle.job.proofs.Highest.{highest_more}
