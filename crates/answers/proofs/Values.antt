@@ -108,14 +108,14 @@ length-bytes : (v : ℕ) (ns : List Literal) → length (bytes v ns) ≡ v
 length-bytes zero ns = refl
 length-bytes (suc v) ns = length-append (bytes v ns) (bit (value ns (suc v)) ∷ []) ∙ omega (arith, length-bytes v ns)
 
-each-byte : (v : ℕ) (ns : List Literal) (rest : List ℕ) (i : ℕ) → i < v → get_or (bytes v ns ++ rest) i 0 ≡ bit (value ns (suc i))
-each-byte zero ns rest i l = absurd (omega arith)
-each-byte (suc v) ns rest i l =
+each_byte : (v : ℕ) (ns : List Literal) (rest : List ℕ) (i : ℕ) → i < v → get_or (bytes v ns ++ rest) i 0 ≡ bit (value ns (suc i))
+each_byte zero ns rest i l = absurd (omega arith)
+each_byte (suc v) ns rest i l =
     let b = bit (value ns (suc v)) in
     ap (λ l. get_or l i 0) (append_assoc (bytes v ns) (b ∷ []) rest)
     ∙ ⊎_elim
     (λ z. get_or_at (bytes v ns) b rest 0 i (length-bytes v ns ∙ sym z) ∙ ap (λ j. bit (value ns (suc j))) (sym z))
-    (λ z. each-byte v ns (b ∷ rest) i (omega (arith, z)))
+    (λ z. each_byte v ns (b ∷ rest) i (omega (arith, z)))
     (cases_eq i v)
 
 -- a byte that says what the literal says makes it true
@@ -144,9 +144,9 @@ all_true v lits rest s = each lits s.0 (each_literal lits s.1)
         let high : n.variable ≤ v = a.0.1 in
         let back : suc (n.variable - 1) ≡ n.variable = omega arith in (
           true_by (bytes v lits ++ rest) n
-              (each-byte v lits rest (n.variable - 1) (omega arith) ∙ ap (λ k. bit (value lits k)) back ∙ ap bit h.0),
+              (each_byte v lits rest (n.variable - 1) (omega arith) ∙ ap (λ k. bit (value lits k)) back ∙ ap bit h.0),
           each ns a.1 h.1,
         )
 
 pub values_law : ValuesLaw
-values_law = record { each_literal = λ v lits s. each_literal lits s.1; each-byte = each-byte; all_true = all_true }
+values_law = record { each_literal = λ v lits s. each_literal lits s.1; each_byte = each_byte; all_true = all_true }

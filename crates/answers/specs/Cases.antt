@@ -29,7 +29,7 @@ pub record Cases : Type 0 where
   pub minus_zero : answer 4 (sat (codes "v 1 -0")) 4 ≡ Err Form
   pub two_blanks : answer 4 (sat (codes "v 1  0")) 4 ≡ Err Form
   pub blank_at_end : answer 4 (sat (codes "v 1 0 ")) 4 ≡ Err Form
-  pub form-first : answer 4 (sat (codes "v 1 1 0 2")) 4 ≡ Err Form
+  pub form_first : answer 4 (sat (codes "v 1 1 0 2")) 4 ≡ Err Form
   pub after_unsatisfiable : answer 2 (below (codes "s UNSATISFIABLE") (codes "v 0")) 2 ≡ Err Form
   pub twice : answer 4 (sat (codes "v 1 -1 0")) 4 ≡ Err Variable
   pub too_high : answer 4 (sat (codes "v 1 5 0")) 4 ≡ Err Variable

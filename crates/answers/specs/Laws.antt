@@ -50,7 +50,7 @@ TotalLaw = (v : ℕ) (lits : List Literal) → (complete v lits ≡ true) ↔ To
 -- the bytes that are written say what the literals say, and the judge reads each literal as true there
 pub record ValuesLaw : Type 0 where
   pub each_literal : (v : ℕ) (lits : List Literal) → Sound v lits → AllByRecursion (λ n. value lits n.variable ≡ Some n.positive) lits
-  pub each-byte : (v : ℕ) (lits : List Literal) (rest : List ℕ) (i : ℕ) → i < v → slice_index (bytes v lits ++ rest) i ≡ bit (value lits (suc i))
+  pub each_byte : (v : ℕ) (lits : List Literal) (rest : List ℕ) (i : ℕ) → i < v → slice_index (bytes v lits ++ rest) i ≡ bit (value lits (suc i))
   pub all_true : (v : ℕ) (lits : List Literal) (rest : List ℕ) → Sound v lits → MakesTrue (bytes v lits ++ rest) lits
 
 -- an answer by the six questions is the one with that meaning

@@ -16,7 +16,7 @@ use Rattle.mtl.specs.Formula.{Formula, Word, Sat, signal, after, until, within a
 use Rattle.mtl.specs.Runs.{word, Settled}
 use Rattle.text.specs.Split.{lines}
 use Rattle.frames.specs.declared.refusals.Refusal.TheVariants.{Sum}
-use Rattle.frames.specs.Numbers.{number as line-number}
+use Rattle.frames.specs.Numbers.{number as line_number}
 use Rattle.calls.specs.Lines.{calling}
 use Rattle.job.specs.declared.refusal.Refusal.TheVariants.{Bound}
 use Rattle.job.specs.declared.call.Reply.TheVariants as reply
@@ -76,4 +76,4 @@ pub record Cases : Type 0 where
   pub twelve_bytes : (l : Literal) → within 9999 l ≡ true → is_ok (verdict 40 9999 (writer_cells 12 0) (l ∷ [])) ≡ true
   -- 10: B00051 gives 2
   pub wrong_sum : calling (codes "B00051") ≡ Err Sum
-  pub second : line-number Sum ≡ 2
+  pub second : line_number Sum ≡ 2

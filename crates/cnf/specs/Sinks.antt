@@ -33,7 +33,7 @@ pub record Taken {S : Type 0} (m : Model S) (c : Clause) (s t : S) : Type 0 wher
   pub room : m.cells s ≤ m.cells t + (length c + 1)
   -- nothing else changes
   pub same_longest : m.longest t ≡ m.longest s
-  pub same-highest : m.highest t ≡ m.highest s
+  pub same_highest : m.highest t ≡ m.highest s
   pub same_values : (α : Assignment) → m.gives t α ≡ m.gives s α
   pub still_watched : (α : Assignment) → m.watched s α → m.watched t α
   pub watched_before : (α : Assignment) → m.watched t α → m.watched s α

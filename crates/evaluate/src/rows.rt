@@ -10,8 +10,8 @@ use mtl::row::Row;
 
 // The truth at instant i of a row whose operands are among the first n lines.
 fn value_at(k: usize, l: usize, letters: &[u32], work: &[u8], n: usize, row: Row, i: usize) -> bool
-    requires l_le_k { (l ≤ k) × ((k < 32) × ((length letters.now ≡ k + 1) × ((i ≤ k) × (n ≤ 32)))) }
-    requires k_in_bounds { (n * (k + 1) ≤ length work.now) × (Ready n row) }
+    requires sizes { (l ≤ k) × ((k < 32) × ((length letters.now ≡ k + 1) × ((i ≤ k) × (n ≤ 32)))) }
+    requires room { (n * (k + 1) ≤ length work.now) × (Ready n row) }
     ensures { Decides result (Meant k l letters.now (line k work.now) row i) }
 {
     match row {
@@ -44,9 +44,9 @@ fn value_at(k: usize, l: usize, letters: &[u32], work: &[u8], n: usize, row: Row
 
 // Writes the truth of row n at 0 to k into its line.
 fn write_row(k: usize, l: usize, letters: &[u32], rows: &[Row], n: usize, work: &mut [u8])
-    requires l_le_k { (l ≤ k) × ((k < 32) × ((length letters.now ≡ k + 1) × ((n < length rows.now) × (n < 32)))) }
-    requires k_in_bounds { ((n + 1) * (k + 1) ≤ length work.old) × (Ready n (row_at rows.now n)) }
-    requires known_2 { Known k l letters.now (older rows.now n) work.old n }
+    requires sizes { (l ≤ k) × ((k < 32) × ((length letters.now ≡ k + 1) × ((n < length rows.now) × (n < 32)))) }
+    requires room { ((n + 1) * (k + 1) ≤ length work.old) × (Ready n (row_at rows.now n)) }
+    requires known_before { Known k l letters.now (older rows.now n) work.old n }
     ensures known { Known k l letters.now (older rows.now n) work.new n }
     ensures written { Written k l letters.now (older rows.now n) work.new n (row_at rows.now n) (k + 1) }
 {
@@ -82,8 +82,8 @@ pub fn evaluate(
     rows: &[Row],
     work: &mut [u8],
 ) -> Result<(), usize>
-    requires l_le_k { (l ≤ k) × ((k < 32) × ((length letters.now ≡ k + 1) × (length rows.now ≤ 32))) }
-    requires k_in_bounds { (length rows.now * (k + 1) ≤ length work.old) × (lawful rows.now ≡ true) }
+    requires sizes { (l ≤ k) × ((k < 32) × ((length letters.now ≡ k + 1) × (length rows.now ≤ 32))) }
+    requires room { (length rows.now * (k + 1) ≤ length work.old) × (lawful rows.now ≡ true) }
     ensures { elim result [ Ok _ ↦ Evaluated k l letters.now rows.now work.new | Err n ↦ UnsettledAt k l letters.now rows.now n ] }
 {
     for n in 0..rows.len() {

@@ -154,7 +154,7 @@ judged_rules area xs ys j k z r new d told =
     let α = assigned area in
     let watched : judge_model.watched j (assigned area) = λ v _ _. ap (λ s. assigned s v) (sym new.bytes) in
     let is = p.inside (assigned area) watched in
-    let in-first : judge_model.inside j (assigned area) ≡ true = ap (λ n. eqb n 0) new.no_fault in
+    let in_first : judge_model.inside j (assigned area) ≡ true = ap (λ n. eqb n 0) new.no_fault in
     record {
       answers = d.answers;
       told = d.told;
@@ -166,6 +166,6 @@ judged_rules area xs ys j k z r new d told =
       first = told ∙ judged_first (written fresh (calls_of xs) d.answers) area j k new p.taken.steps;
       exact = λ b. (
         λ e. (is.0 (eq-eqb k.fault 0 (sym told ∙ e))).1 b,
-        λ shown. told ∙ eqb-true k.fault 0 (is.1 (in-first, λ _. shown)),
+        λ shown. told ∙ eqb-true k.fault 0 (is.1 (in_first, λ _. shown)),
       );
     }

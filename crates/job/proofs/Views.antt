@@ -60,7 +60,7 @@ module _ {S' S : Type 0} {m' : Model S'} {m : Model S} {f : S' → S} (v : View 
     counted = sym (v.count t) ∙ a.counted ∙ ap (λ n. n + length cs) (v.count s);
     room = omega (arith, a.room, v.cells s, v.cells t);
     same_longest = sym (v.longest t) ∙ a.same_longest ∙ v.longest s;
-    same-highest = sym (v.highest t) ∙ a.same-highest ∙ v.highest s;
+    same_highest = sym (v.highest t) ∙ a.same_highest ∙ v.highest s;
     same_values = λ α. sym (v.gives t α) ∙ a.same_values α ∙ v.gives s α;
     still_watched = λ α w. v.watched t α (a.still_watched α (v.watched_back s α w));
     watched_before = λ α w. v.watched s α (a.watched_before α (v.watched_back t α w));

@@ -18,7 +18,7 @@ pub record TakenAll {S : Type 0} (m : Model S) (cs : Clauses) (s t : S) : Type 0
   pub counted : m.count t ≡ m.count s + length cs
   pub room : m.cells s ≤ m.cells t + cells_of cs
   pub same_longest : m.longest t ≡ m.longest s
-  pub same-highest : m.highest t ≡ m.highest s
+  pub same_highest : m.highest t ≡ m.highest s
   pub same_values : (α : Assignment) → m.gives t α ≡ m.gives s α
   pub still_watched : (α : Assignment) → m.watched s α → m.watched t α
   pub watched_before : (α : Assignment) → m.watched t α → m.watched s α
@@ -78,7 +78,7 @@ module _ {S : Type 0} (m : Model S) where
     counted = omega arith;
     room = omega arith;
     same_longest = refl;
-    same-highest = refl;
+    same_highest = refl;
     same_values = λ α. refl;
     still_watched = λ α w. w;
     watched_before = λ α w. w;
@@ -95,7 +95,7 @@ module _ {S : Type 0} (m : Model S) where
     counted = omega (arith, p.counted, q.counted, length-append a b);
     room = omega (arith, p.room, q.room, cells-++ a b);
     same_longest = q.same_longest ∙ p.same_longest;
-    same-highest = q.same-highest ∙ p.same-highest;
+    same_highest = q.same_highest ∙ p.same_highest;
     same_values = λ α. q.same_values α ∙ p.same_values α;
     still_watched = λ α w. q.still_watched α (p.still_watched α w);
     watched_before = λ α w. p.watched_before α (q.watched_before α w);
@@ -115,7 +115,7 @@ module _ {S : Type 0} (m : Model S) where
   pub fits_back : (s t : S) (a b : Clauses) → Fits m (a ++ b) s → TakenAll m a s t → Fits m b t
   fits_back s t a b h k = record {
     takes = record {
-      ranged = ap (λ v. all_in_range v b) k.same-highest ∙ and_right (all_in_range (m.highest s) a) (all_in_range (m.highest s) b) (sym (ranged-++ (m.highest s) a b) ∙ h.takes.ranged);
+      ranged = ap (λ v. all_in_range v b) k.same_highest ∙ and_right (all_in_range (m.highest s) a) (all_in_range (m.highest s) b) (sym (ranged-++ (m.highest s) a b) ∙ h.takes.ranged);
       full = and_right (none_empty a) (none_empty b) (sym (none_empty-++ a b) ∙ h.takes.full);
     };
     short = omega (arith, longest-++ a b, h.short, k.same_longest);

@@ -44,8 +44,8 @@ one_more s (Define code a b t) y (rows, kept) =
     ((omega (arith, new.room, more_rows), kept), omega (arith, more_rows))
 one_more s (Require row instant value) y (rows, kept) =
     let new = require_yes s row instant value y in
-    let more-kept = length_push s.kept (requirement row instant value) in
-    ((rows, omega (arith, new.room, more-kept)), omega (arith, more-kept))
+    let more_kept = length_push s.kept (requirement row instant value) in
+    ((rows, omega (arith, new.room, more_kept)), omega (arith, more_kept))
 
 module _ {S : Type 0} (m : Model S) where
   one_accepted : (k : S) (s : State) (c : Call) (a : Answer) → a ≡ answer_to m k s c → is_ok a ≡ true → Room s → OneMore s (then_knows s c a)

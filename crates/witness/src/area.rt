@@ -34,8 +34,8 @@ fn write_part(
     work: &[u8],
     n: usize,
 )
-    requires l_le_k { (l ≤ k) × ((k < 32) × ((n ≤ 32) × ((n * (k + 1) ≤ length work.now) × (Among n part)))) }
-    requires count_bound { (count ≤ 32) × ((at < 10000) × (at + count ≤ length area.old)) }
+    requires sizes { (l ≤ k) × ((k < 32) × ((n ≤ 32) × ((n * (k + 1) ≤ length work.now) × (Among n part)))) }
+    requires room { (count ≤ 32) × ((at < 10000) × (at + count ≤ length area.old)) }
     ensures said { Tell area.new at count (Said k l (line k work.now) part) }
     ensures bits { Bits at (at + count) area.new }
     ensures below { SameBelow at area.new area.old }
@@ -58,8 +58,8 @@ fn write_extra(
     work: &[u8],
     n: usize,
 )
-    requires l_le_k { (l ≤ k) × ((k < 32) × ((n ≤ 32) × ((n * (k + 1) ≤ length work.now) × (AmongIf n extra)))) }
-    requires count_value { ((extra ≡ None → count ≡ 0)) × ((count ≤ 32) × ((at < 10000) × (at + count ≤ length area.old))) }
+    requires sizes { (l ≤ k) × ((k < 32) × ((n ≤ 32) × ((n * (k + 1) ≤ length work.now) × (AmongIf n extra)))) }
+    requires room { (extra ≡ None → count ≡ 0) × ((count ≤ 32) × ((at < 10000) × (at + count ≤ length area.old))) }
     ensures said { TellIf k l (line k work.now) area.new at count extra }
     ensures bits { Bits at (at + count) area.new }
     ensures below { SameBelow at area.new area.old }
@@ -72,7 +72,7 @@ fn write_extra(
 
 // Writes the block of a row, whose line is n, and says where it ends.
 fn write_block(area: &mut [u8], at: usize, k: u8, l: u8, work: &[u8], n: u8, row: Row) -> usize
-    requires l_le_k { (l ≤ k) × ((k ≤ 31) × ((n < 32) × ((n + 1) * (k + 1) ≤ length work.now))) }
+    requires sizes { (l ≤ k) × ((k ≤ 31) × ((n < 32) × ((n + 1) * (k + 1) ≤ length work.now))) }
     requires ready { (Ready n row) × ((at < 9000) × (at + size k row ≤ length area.old)) }
     ensures end { result ≡ at + size k row }
     ensures block { Block k l work.now area.new at n row }
@@ -107,8 +107,8 @@ fn write_block(area: &mut [u8], at: usize, k: u8, l: u8, work: &[u8], n: u8, row
 
 // Writes the variables of begin, and the block of each row from its line in the work area.
 pub(crate) fn write_area(area: &mut [u8], k: u8, l: u8, rows: &[Row], work: &[u8])
-    requires l_le_k { (l ≤ k) × ((k ≤ 31) × ((length rows.now ≤ 32) × (lawful rows.now ≡ true))) }
-    requires k_in_bounds { (length rows.now * (k + 1) ≤ length work.now) × ((top k (reverse rows.now) ≤ length area.old + 1) × (top k (reverse rows.now) < 9000)) }
+    requires sizes { (l ≤ k) × ((k ≤ 31) × ((length rows.now ≤ 32) × (lawful rows.now ≡ true))) }
+    requires room { (length rows.now * (k + 1) ≤ length work.now) × ((top k (reverse rows.now) ≤ length area.old + 1) × (top k (reverse rows.now) < 9000)) }
     ensures laid { Laid k l work.now area.new (reverse rows.now) }
     ensures bits { Bits 0 (top k (reverse rows.now) - 1) area.new }
     ensures rest { SameFrom (top k (reverse rows.now) - 1) area.new area.old }

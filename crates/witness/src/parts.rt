@@ -23,7 +23,7 @@ pub(crate) enum Part {
 impl Part {
     // What it says of i, where the lines that it reads are among the first n.
     pub(crate) fn truth_at(self, k: usize, l: usize, work: &[u8], n: usize, i: usize) -> bool
-        requires l_le_k { (l ≤ k) × ((k < 32) × ((n ≤ 32) × ((n * (k + 1) ≤ length work.now) × (i < 32)))) }
+        requires sizes { (l ≤ k) × ((k < 32) × ((n ≤ 32) × ((n * (k + 1) ≤ length work.now) × (i < 32)))) }
         requires among { Among n self }
         ensures { Decides result (Said k l (line k work.now) self i) }
     {

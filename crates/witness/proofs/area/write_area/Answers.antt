@@ -11,10 +11,10 @@ use Rattle.witness.proofs.Laying.{laid_like, top_more, top_to}
 use Rattle.witness.proofs.area.write_area.Goals as goal
 
 pub write_part-requires : goal.write_part-requires
-write_part-requires c = let t = top_least c.args.k (reverse c.args.rows.now) in record { l_le_k = (omega arith, (omega arith, (omega arith, (omega arith, tt)))); count_bound = (omega arith, (omega arith, omega arith)) }
+write_part-requires c = let t = top_least c.args.k (reverse c.args.rows.now) in record { sizes = (omega arith, (omega arith, (omega arith, (omega arith, tt)))); room = (omega arith, (omega arith, omega arith)) }
 
 pub write_part-requires-2 : goal.write_part-requires-2
-write_part-requires-2 c = let t = top_least c.args.k (reverse c.args.rows.now) in record { l_le_k = (omega arith, (omega arith, (omega arith, (omega arith, tt)))); count_bound = (omega arith, (omega arith, omega arith)) }
+write_part-requires-2 c = let t = top_least c.args.k (reverse c.args.rows.now) in record { sizes = (omega arith, (omega arith, (omega arith, (omega arith, tt)))); room = (omega arith, (omega arith, omega arith)) }
 
 pub write_block-at-requires : goal.write_block-at-requires
 write_block-at-requires c =
@@ -24,7 +24,7 @@ write_block-at-requires c =
     let a = c.loop-n.invariant.0 in
     let t = top_to k rows (n + 1) (omega arith) in
     let m = top_more k rows n (omega arith) in
-    record { l_le_k = (omega arith, (omega arith, (omega arith, omega arith))); ready = (ready rows c.requires.l_le_k.1.1.1 n (omega arith), (omega arith, omega arith)) }
+    record { sizes = (omega arith, (omega arith, (omega arith, omega arith))); ready = (ready rows c.requires.sizes.1.1.1 n (omega arith), (omega arith, omega arith)) }
 
 pub loop-n-preserved : goal.loop-n-preserved
 loop-n-preserved c =

@@ -47,8 +47,8 @@ write_area-requires c =
     let law = ap lawful rows ∙ t.lawful in
     let short : length c.as_slice-rows.result.now ≤ 32 = omega (arith, few, t.few) in
     record {
-      l_le_k = (omega (arith, p.inside), (omega arith, (short, law)));
-      k_in_bounds = (omega (arith, work, p.work_roomy), (omega (arith, high, p.roomy, h), top_small c.bound-k.result c.as_slice-rows.result.now (omega arith) law short));
+      sizes = (omega (arith, p.inside), (omega arith, (short, law)));
+      room = (omega (arith, work, p.work_roomy), (omega (arith, high, p.roomy, h), top_small c.bound-k.result c.as_slice-rows.result.now (omega arith) law short));
     }
 
 pub returns : goal.returns
