@@ -1,11 +1,15 @@
 // Scripts that are made from calls.
+ghost use Rattle.std.specs.Prelude.{◌≡◌, replicate};
+
 use crate::showing::show;
 use calls::lines::write_call;
 use calls::{beginning, defining};
 use job::call::Call;
 
 // An assignment that makes every variable true.
-pub fn filled() -> [u8; 100] {
+pub fn filled() -> [u8; 100]
+    ensures { result ≡ replicate 100 1 }
+{
     [1; 100]
 }
 
