@@ -4,14 +4,10 @@
 use answers::reading::read_answer;
 use answers::verdicts::Verdict;
 use calls::{beginning, defining};
-use job::call::{Call, Exchange};
+use job::call::Exchange;
 use job::drive::drive_lent;
 use job::state::Setup;
 use sinks::writer::Writer;
-
-fn asked(call: Call) -> Exchange {
-    Exchange { call, answer: None }
-}
 
 // What a job knows after these calls over a writer to an area of some bytes.
 fn known(rt: &HostRuntime, exchanges: &mut [Exchange], room: usize) -> anyhow::Result<Setup> {
@@ -48,145 +44,102 @@ fn show_into(
 }
 
 fn show_accepted(rt: &HostRuntime, setup: &Setup) -> anyhow::Result<()> {
-    show(rt, setup, "one line", b"s SATISFIABLE\nv 1 2 3 4 0\n")?;
-    show(
-        rt,
-        setup,
-        "no last line feed",
-        b"s SATISFIABLE\nv -1 2 -3 4 0",
-    )?;
-    show(rt, setup, "any order", b"s SATISFIABLE\nv 4 -2 -3 1 0\n")?;
-    show(
-        rt,
-        setup,
-        "several lines",
-        b"s SATISFIABLE\nv 1\nv -2 3\nv -4\nv 0\n",
-    )?;
-    show(
-        rt,
-        setup,
-        "comments",
-        b"c first\nc\ns SATISFIABLE\ncv 1 1\nv 1 -2\nc between\nv -3 -4 0\nc last",
-    )?;
-    show(rt, setup, "unsatisfiable", b"c\ns UNSATISFIABLE\nc v 1 0\n")
+    let cases: [(&str, &[u8]); 6] = [
+        ("one line", b"s SATISFIABLE\nv 1 2 3 4 0\n"),
+        ("no last line feed", b"s SATISFIABLE\nv -1 2 -3 4 0"),
+        ("any order", b"s SATISFIABLE\nv 4 -2 -3 1 0\n"),
+        ("several lines", b"s SATISFIABLE\nv 1\nv -2 3\nv -4\nv 0\n"),
+        (
+            "comments",
+            b"c first\nc\ns SATISFIABLE\ncv 1 1\nv 1 -2\nc between\nv -3 -4 0\nc last",
+        ),
+        ("unsatisfiable", b"c\ns UNSATISFIABLE\nc v 1 0\n"),
+    ];
+    for (name, text) in cases {
+        show(rt, setup, name, text)?;
+    }
+    Ok(())
 }
 
 fn show_status(rt: &HostRuntime, setup: &Setup) -> anyhow::Result<()> {
-    show(rt, setup, "empty text", b"")?;
-    show(rt, setup, "comments alone", b"c s SATISFIABLE\n")?;
-    show(
-        rt,
-        setup,
-        "empty first line",
-        b"\ns SATISFIABLE\nv 1 2 3 4 0\n",
-    )?;
-    show(rt, setup, "unknown", b"s UNKNOWN\n")?;
-    show(rt, setup, "small letters", b"s satisfiable\nv 1 2 3 4 0\n")?;
-    show(
-        rt,
-        setup,
-        "blank after the status",
-        b"s SATISFIABLE \nv 1 2 3 4 0\n",
-    )?;
-    show(
-        rt,
-        setup,
-        "carriage return",
-        b"s SATISFIABLE\r\nv 1 2 3 4 0\r\n",
-    )?;
-    show(rt, setup, "v line first", b"v 1 2 3 4 0\ns SATISFIABLE\n")
+    let cases: [(&str, &[u8]); 8] = [
+        ("empty text", b""),
+        ("comments alone", b"c s SATISFIABLE\n"),
+        ("empty first line", b"\ns SATISFIABLE\nv 1 2 3 4 0\n"),
+        ("unknown", b"s UNKNOWN\n"),
+        ("small letters", b"s satisfiable\nv 1 2 3 4 0\n"),
+        ("blank after the status", b"s SATISFIABLE \nv 1 2 3 4 0\n"),
+        ("carriage return", b"s SATISFIABLE\r\nv 1 2 3 4 0\r\n"),
+        ("v line first", b"v 1 2 3 4 0\ns SATISFIABLE\n"),
+    ];
+    for (name, text) in cases {
+        show(rt, setup, name, text)?;
+    }
+    Ok(())
 }
 
 fn show_lines(rt: &HostRuntime, setup: &Setup) -> anyhow::Result<()> {
-    show(rt, setup, "no v line", b"s SATISFIABLE\n")?;
-    show(
-        rt,
-        setup,
-        "empty line",
-        b"s SATISFIABLE\nv 1 2 3 4\n\nv 0\n",
-    )?;
-    show(
-        rt,
-        setup,
-        "second status",
-        b"s SATISFIABLE\ns SATISFIABLE\nv 1 2 3 4 0\n",
-    )?;
-    show(rt, setup, "v alone", b"s SATISFIABLE\nv\nv 1 2 3 4 0\n")?;
-    show(rt, setup, "v without blank", b"s SATISFIABLE\nv1 2 3 4 0\n")?;
-    show(rt, setup, "two blanks", b"s SATISFIABLE\nv 1  2 3 4 0\n")?;
-    show(
-        rt,
-        setup,
-        "blank at the end",
-        b"s SATISFIABLE\nv 1 2 3 4 0 \n",
-    )?;
-    show(
-        rt,
-        setup,
-        "blank in front",
-        b"s SATISFIABLE\n v 1 2 3 4 0\n",
-    )?;
-    show(
-        rt,
-        setup,
-        "carriage return at the end",
-        b"s SATISFIABLE\nv 1 2 3 4 0\r\n",
-    )?;
-    show(
-        rt,
-        setup,
-        "line feed too many",
-        b"s SATISFIABLE\nv 1 2 3 4 0\n\n",
-    )?;
-    show(
-        rt,
-        setup,
-        "v line after unsatisfiable",
-        b"s UNSATISFIABLE\nv 0\n",
-    )?;
-    show(
-        rt,
-        setup,
-        "empty line after unsatisfiable",
-        b"s UNSATISFIABLE\n\n",
-    )
+    let cases: [(&str, &[u8]); 12] = [
+        ("no v line", b"s SATISFIABLE\n"),
+        ("empty line", b"s SATISFIABLE\nv 1 2 3 4\n\nv 0\n"),
+        (
+            "second status",
+            b"s SATISFIABLE\ns SATISFIABLE\nv 1 2 3 4 0\n",
+        ),
+        ("v alone", b"s SATISFIABLE\nv\nv 1 2 3 4 0\n"),
+        ("v without blank", b"s SATISFIABLE\nv1 2 3 4 0\n"),
+        ("two blanks", b"s SATISFIABLE\nv 1  2 3 4 0\n"),
+        ("blank at the end", b"s SATISFIABLE\nv 1 2 3 4 0 \n"),
+        ("blank in front", b"s SATISFIABLE\n v 1 2 3 4 0\n"),
+        (
+            "carriage return at the end",
+            b"s SATISFIABLE\nv 1 2 3 4 0\r\n",
+        ),
+        ("line feed too many", b"s SATISFIABLE\nv 1 2 3 4 0\n\n"),
+        ("v line after unsatisfiable", b"s UNSATISFIABLE\nv 0\n"),
+        ("empty line after unsatisfiable", b"s UNSATISFIABLE\n\n"),
+    ];
+    for (name, text) in cases {
+        show(rt, setup, name, text)?;
+    }
+    Ok(())
 }
 
 fn show_numbers(rt: &HostRuntime, setup: &Setup) -> anyhow::Result<()> {
-    show(rt, setup, "leading zero", b"s SATISFIABLE\nv 01 2 3 4 0\n")?;
-    show(rt, setup, "two zeros", b"s SATISFIABLE\nv 1 2 3 4 00\n")?;
-    show(rt, setup, "minus zero", b"s SATISFIABLE\nv 1 2 3 4 -0\n")?;
-    show(rt, setup, "minus alone", b"s SATISFIABLE\nv 1 2 3 4 - 0\n")?;
-    show(rt, setup, "plus", b"s SATISFIABLE\nv +1 2 3 4 0\n")?;
-    show(rt, setup, "letter", b"s SATISFIABLE\nv 1 2 3 4x 0\n")?;
-    show(rt, setup, "no 0", b"s SATISFIABLE\nv 1 2 3 4\n")?;
-    show(
-        rt,
-        setup,
-        "number after the 0",
-        b"s SATISFIABLE\nv 1 2 3 0 4\n",
-    )?;
-    show(rt, setup, "0 twice", b"s SATISFIABLE\nv 1 2 3 4 0\nv 0\n")
+    let cases: [(&str, &[u8]); 9] = [
+        ("leading zero", b"s SATISFIABLE\nv 01 2 3 4 0\n"),
+        ("two zeros", b"s SATISFIABLE\nv 1 2 3 4 00\n"),
+        ("minus zero", b"s SATISFIABLE\nv 1 2 3 4 -0\n"),
+        ("minus alone", b"s SATISFIABLE\nv 1 2 3 4 - 0\n"),
+        ("plus", b"s SATISFIABLE\nv +1 2 3 4 0\n"),
+        ("letter", b"s SATISFIABLE\nv 1 2 3 4x 0\n"),
+        ("no 0", b"s SATISFIABLE\nv 1 2 3 4\n"),
+        ("number after the 0", b"s SATISFIABLE\nv 1 2 3 0 4\n"),
+        ("0 twice", b"s SATISFIABLE\nv 1 2 3 4 0\nv 0\n"),
+    ];
+    for (name, text) in cases {
+        show(rt, setup, name, text)?;
+    }
+    Ok(())
 }
 
 fn show_variables(rt: &HostRuntime, setup: &Setup) -> anyhow::Result<()> {
-    show(rt, setup, "too high", b"s SATISFIABLE\nv 1 2 3 4 5 0\n")?;
-    show(rt, setup, "twice", b"s SATISFIABLE\nv 1 2 3 4 1 0\n")?;
-    show(rt, setup, "both ways", b"s SATISFIABLE\nv 1 2 3 -1 0\n")?;
-    show(
-        rt,
-        setup,
-        "2^32 and 1",
-        b"s SATISFIABLE\nv 4294967297 2 3 4 0\n",
-    )?;
-    show(
-        rt,
-        setup,
-        "a hundred digits",
-        b"s SATISFIABLE\nv -1000000000000000000000000000000000000000000000000000000000000000000000000000000000000000000000000001 2 3 4 0",
-    )?;
-    show(rt, setup, "one missing", b"s SATISFIABLE\nv 1 2 4 0\n")?;
-    show(rt, setup, "all missing", b"s SATISFIABLE\nv 0\n")
+    let cases: [(&str, &[u8]); 7] = [
+        ("too high", b"s SATISFIABLE\nv 1 2 3 4 5 0\n"),
+        ("twice", b"s SATISFIABLE\nv 1 2 3 4 1 0\n"),
+        ("both ways", b"s SATISFIABLE\nv 1 2 3 -1 0\n"),
+        ("2^32 and 1", b"s SATISFIABLE\nv 4294967297 2 3 4 0\n"),
+        (
+            "a hundred digits",
+            b"s SATISFIABLE\nv -1000000000000000000000000000000000000000000000000000000000000000000000000000000000000000000000000001 2 3 4 0",
+        ),
+        ("one missing", b"s SATISFIABLE\nv 1 2 4 0\n"),
+        ("all missing", b"s SATISFIABLE\nv 0\n"),
+    ];
+    for (name, text) in cases {
+        show(rt, setup, name, text)?;
+    }
+    Ok(())
 }
 
 // Where a text has several faults, the first question that it fails is the answer.
@@ -246,10 +199,10 @@ fn show_length(rt: &HostRuntime, setup: &Setup, name: &str, comment: usize) -> a
 // The job with the most variables: bound 31, a signal, and 31 rows with variables of their own.
 fn show_largest(rt: &HostRuntime) -> anyhow::Result<()> {
     let mut exchanges = vec![in rt.alloc()]?;
-    exchanges.push(asked(beginning(31)))?;
-    exchanges.push(asked(defining(1, 0, 0, 0)))?;
+    exchanges.push(Exchange::from(beginning(31)))?;
+    exchanges.push(Exchange::from(defining(1, 0, 0, 0)))?;
     for _ in 0..31u8 {
-        exchanges.push(asked(defining(6, 0, 0, 0)))?;
+        exchanges.push(Exchange::from(defining(6, 0, 0, 0)))?;
     }
     let setup = known(rt, exchanges.as_mut_slice(), 1_000_000)?;
     let highest = setup.highest();
@@ -259,14 +212,9 @@ fn show_largest(rt: &HostRuntime) -> anyhow::Result<()> {
         text.push_str(number.as_str())?;
     }
     text.push_str(" 0")?;
-    let mut area = [7u8; 2112];
+    let mut area = [7u8; Setup::MOST_VARIABLES];
     show_into(rt, &setup, "the largest job", text.as_bytes(), &mut area)?;
-    let mut ones = 0u32;
-    for b in &area {
-        if *b == 1 {
-            ones = ones.saturating_add(1);
-        }
-    }
+    let ones = area.iter().filter(|byte| **byte == 1).count();
     println!(rt; ", {highest} variables, {ones} bytes are 1")?;
     Ok(())
 }
@@ -274,11 +222,7 @@ fn show_largest(rt: &HostRuntime) -> anyhow::Result<()> {
 fn main(rt: HostRuntime) -> anyhow::Result<()> {
     let setup = known(
         &rt,
-        &mut [
-            asked(beginning(0)),
-            asked(defining(1, 0, 0, 0)),
-            asked(defining(5, 0, 0, 0)),
-        ],
+        &mut [beginning(0), defining(1, 0, 0, 0), defining(5, 0, 0, 0)].map(Exchange::from),
         400,
     )?;
     println!(rt; "four variables")?;

@@ -23,7 +23,7 @@ abbrev text : List ℕ → List ℕ
 text ds = map (λ d. 48 + d) ds
 
 pub none_some : {A : Type 0} (x : A) → None ≡ Some x → ⊥
-none_some x e = let z : ◌≡◌ {A = ℕ} 0 1 = cc in omega arith
+none_some x e = cc
 
 tens_text : (ds : List ℕ) (n : ℕ) → Under ds → tens (text ds) n ≡ Some (number_from_digits_after 10 n ds)
 tens_text [] n u = refl
@@ -101,7 +101,7 @@ numeral_only (c ∷ cs) n e = at (eqb c 48) refl
     zero_is (x ∷ xs) q = absurd (none_some n q)
 
     from_text : (ds : List ℕ) → (c ≡ 48 → ⊥) → c ∷ cs ≡ text ds → Under ds → n ≡ number_from_digits_after 10 0 ds → c ∷ cs ≡ decimal n
-    from_text [] z q u m = absurd (let o : ◌≡◌ {A = ℕ} 0 1 = cc in omega arith)
+    from_text [] z q u m = absurd (cc)
     from_text (d ∷ ds) z q u m =
         let f : c ≡ 48 + d = cc in
         let p : 0 < d = omega (arith, λ (y : d ≡ 0). z (omega (arith, y))) in
@@ -224,7 +224,7 @@ pub only_law : (l : List ℕ) (ns : List Literal) → after_v (words l) ≡ Some
 only_law l ns e = let m = words_law.made l in at m.0 m.1 m.3 (sym (ap after_v m.2) ∙ e)
   where
     long : (w : List ℕ) (ws : List (List ℕ)) (ms : List Literal) → w ∷ ws ≡ map shown ms → 0 < length ms
-    long w ws [] q = absurd (let o : ◌≡◌ {A = ℕ} 0 1 = cc in omega arith)
+    long w ws [] q = absurd (cc)
     long w ws (m ∷ ms) q = omega arith
 
     at : (v : List ℕ) (ws : List (List ℕ)) → l ≡ v ++ blank_before ws → after_v (v ∷ ws) ≡ Some ns → (l ≡ v_line ns) × (0 < length ns) × AllByRecursion Proper ns

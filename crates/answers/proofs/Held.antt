@@ -1,24 +1,19 @@
--- Laws of the literals that a valuation holds.
-use Rattle.std.proofs.Common.{◌≡◌, ℕ, ◌+◌, ◌-◌, ◌<◌, ◌≤◌, Bool, true, false, cond, not, ◌&&◌, ◌||◌, eqb, leb, ◌⊎◌, List, [], ◌∷◌, ◌++◌, length, get_or, set, is_some, Some, None, Option, sym, refl, ap, ◌∙◌, ⊎_elim, append_assoc, arith, length-set, get_or-set_other, get_or-set_same}
-use Rattle.std.proofs.lemmas.Bool.{cond-true, cond-false, eq-eqb, ne_eqb, le-leb, lt-leb, and_from, and_right, cases_eq, both_ways}
+-- Laws of the literals that values hold.
+use Rattle.std.proofs.Common.{◌≡◌, ℕ, ◌+◌, ◌-◌, ◌<◌, ◌≤◌, Bool, true, false, cond, not, ◌&&◌, ◌||◌, eqb, leb, List, [], ◌∷◌, ◌++◌, length, get_or, set, is_some, Some, None, Ok, Option, Result, sym, refl, ap, ◌∙◌, subst, ⊎_elim, append_assoc, arith, length-set, get_or-set_other, get_or-set_same}
+use Rattle.std.specs.Result.{result_and}
+use Rattle.std.proofs.lemmas.Bool.{cond-true, cond-false, eq-eqb, ne_eqb, leb-true, and_parts, not-true, cases_eq, both_ways}
 use Rattle.cnf.specs.declared.clause.Literal.{Literal}
 use Rattle.cnf.specs.Clauses.{within}
-use Rattle.answers.specs.Reading.{closed, front, join}
+use Rattle.answers.specs.declared.refusals.Refusal.{Refusal}
+use Rattle.answers.specs.Reading.{front, join}
 use Rattle.answers.specs.Values.{value, given, fresh}
-use Rattle.answers.specs.Progress.{Holds, resume}
+use Rattle.answers.specs.Left.{Like, Takes}
+use Rattle.answers.specs.Held.{sound_if, free, Holds}
 
-pub resume_more : (ms : List Literal) (x : Literal) → (x.variable ≡ 0 → ⊥) → (tail : Option (List Literal)) → resume false ms (front (Some x) tail) ≡ resume false (ms ++ x ∷ []) tail
-resume_more ms x n None = refl
-resume_more ms x n (Some []) = ap (join (Some ms)) (cond-false (eqb x.variable 0) (Some []) None (ne_eqb x.variable 0 n))
-resume_more ms x n (Some (y ∷ ys)) = ap (join (Some ms)) (cond-false (eqb x.variable 0) None (front (Some x) (closed (y ∷ ys))) (ne_eqb x.variable 0 n)) ∙ regroup (closed (y ∷ ys))
-  where
-    regroup : (o : Option (List Literal)) → join (Some ms) (front (Some x) o) ≡ join (Some (ms ++ x ∷ [])) o
-    regroup None = refl
-    regroup (Some zs) = ap Some (sym (append_assoc ms (x ∷ []) zs))
-
-pub resume-kept : (e : Bool) → e ≡ false → (ms : List Literal) (x : Literal) → (x.variable ≡ 0 → ⊥) → (tail : Option (List Literal)) → resume e ms (front (Some x) tail) ≡ resume e (ms ++ x ∷ []) tail
-resume-kept true q ms x n tail = absurd (both_ways true q refl)
-resume-kept false q ms x n tail = resume_more ms x n tail
+-- a literal moves from what is left to what was given
+pub regroup : (ms : List Literal) (x : Literal) (o : Option (List Literal)) → join (Some ms) (front (Some x) o) ≡ join (Some (ms ++ x ∷ [])) o
+regroup ms x None = refl
+regroup ms x (Some zs) = ap Some (sym (append_assoc ms (x ∷ []) zs))
 
 -- a value that is given stands, and otherwise x may give it
 abbrev or_else : Option Bool → Option Bool → Option Bool
@@ -75,73 +70,93 @@ fresh_push v (m ∷ ms) x =
     ∙ swap (within v m) (given ms m.variable) (eqb m.variable x.variable) (fresh v ms) (within v x) (given ms x.variable)
     ∙ ap (λ g. fresh v (m ∷ ms) && (within v x && not g)) (sym (given_head m ms x.variable))
 
--- x is too high or was given
-pub holds_strange : (v : ℕ) (values : List (Option Bool)) (s : Bool) (ms : List Literal) (x : Literal) → Holds v values s ms → (v < x.variable) ⊎ ((x.variable ≤ 2112) × (0 < x.variable) × (is_some (get_or values (x.variable - 1) None) ≡ true)) → Holds v values true (ms ++ x ∷ [])
-holds_strange v values s ms x h w =
-    record { sized = h.sized; stranger = sym (ap not (fresh_push v ms x ∙ ⊎_elim high twice w)); valued = λ e. absurd (both_ways true e refl) }
-  where
-    no_high : (f g : Bool) → (f && (false && g)) ≡ false
-    no_high true g = refl
-    no_high false g = refl
+-- n is given, which is x, cut at 10,000
+module _ (values : List (Option Bool)) (sound : Result (Unit {0}) Refusal) (ms : List Literal) (n x : Literal) (h : Holds values sound ms) (like : Like x n) (some : 0 < n.variable) (low : length values ≤ 2112) where
+  same_within : within (length values) n ≡ true → x.variable ≡ n.variable
+  same_within w =
+      let p = and_parts (leb 1 n.variable) (leb n.variable (length values)) w in
+      let top : n.variable ≤ length values = leb-true n.variable (length values) p.1 in
+      omega (arith, like.1)
 
-    no_new : (f b : Bool) → (f && (b && false)) ≡ false
-    no_new true true = refl
-    no_new true false = refl
-    no_new false b = refl
+  not_within : within (length values) n ≡ false → within (length values) x ≡ false
+  not_within w = at (within (length values) x) refl
+    where
+      at : (b : Bool) → within (length values) x ≡ b → b ≡ false
+      at false e = refl
+      at true e =
+          let p = and_parts (leb 1 x.variable) (leb x.variable (length values)) e in
+          let top : x.variable ≤ length values = leb-true x.variable (length values) p.1 in
+          let same : n.variable ≡ x.variable = omega (arith, like.1) in
+          absurd (both_ways (within (length values) n) w (ap (λ k. leb 1 k && leb k (length values)) same ∙ e))
 
-    high : v < x.variable → (fresh v ms && (within v x && not (given ms x.variable))) ≡ false
-    high l = ap (λ b. fresh v ms && (b && not (given ms x.variable))) (and_right (leb 1 x.variable) (leb x.variable v) (lt-leb x.variable v l)) ∙ no_high (fresh v ms) (not (given ms x.variable))
+  held : fresh (length values) ms ≡ true → within (length values) n ≡ true → get_or values (n.variable - 1) None ≡ value ms x.variable
+  held f w =
+      let p = and_parts (leb 1 n.variable) (leb n.variable (length values)) w in
+      let top : n.variable ≤ length values = leb-true n.variable (length values) p.1 in
+      let back : n.variable - 1 + 1 ≡ x.variable = omega (arith, same_within w) in
+      h.valued f (n.variable - 1) (omega arith) ∙ ap (value ms) back
 
-    twice : (x.variable ≤ 2112) × (0 < x.variable) × (is_some (get_or values (x.variable - 1) None) ≡ true) → (fresh v ms && (within v x && not (given ms x.variable))) ≡ false
-    twice t = at (fresh v ms) refl
-      where
-        at : (f : Bool) → fresh v ms ≡ f → (f && (within v x && not (given ms x.variable))) ≡ false
-        at false e = refl
-        at true e =
-            let back : x.variable - 1 + 1 ≡ x.variable = omega (arith, t.1) in
-            let same : get_or values (x.variable - 1) None ≡ value ms x.variable = h.valued (h.stranger ∙ ap not e) (x.variable - 1) (omega (arith, t.0, t.1)) ∙ ap (value ms) back in
-            ap (λ g. within v x && not g) (sym (ap is_some same) ∙ t.2) ∙ no_new true (within v x)
+  fresh_given : fresh (length values) ms ≡ true → fresh (length values) (ms ++ x ∷ []) ≡ free values n
+  fresh_given f = fresh_push (length values) ms x ∙ ap (λ b. b && (within (length values) x && not (given ms x.variable))) f ∙ at (within (length values) n) refl
+    where
+      at : (b : Bool) → within (length values) n ≡ b → (within (length values) x && not (given ms x.variable)) ≡ (within (length values) n && not (is_some (get_or values (n.variable - 1) None)))
+      at true w = ap (λ k. (leb 1 k && leb k (length values)) && not (given ms x.variable)) (same_within w) ∙ ap (λ o. within (length values) n && not (is_some o)) (sym (held f w))
+      at false w = ap (λ b. b && not (given ms x.variable)) (not_within w) ∙ sym (ap (λ b. b && not (is_some (get_or values (n.variable - 1) None))) w)
 
--- x is new
-pub holds_more : (v : ℕ) (values : List (Option Bool)) (s : Bool) (ms : List Literal) (x : Literal) → Holds v values s ms → v ≤ 2112 → 0 < x.variable → x.variable ≤ v → is_some (get_or values (x.variable - 1) None) ≡ false → Holds v (set values (x.variable - 1) (Some x.positive)) s (ms ++ x ∷ [])
-holds_more v values s ms x h w p q n =
-    record { sized = length-set values (x.variable - 1) (Some x.positive) ∙ h.sized; stranger = h.stranger ∙ ap not (at (fresh v ms) refl) ∙ ap not (sym (fresh_push v ms x)); valued = places }
-  where
-    back : x.variable - 1 + 1 ≡ x.variable
-    back = omega arith
+  judged : result_and sound (sound_if (free values n)) ≡ sound_if (fresh (length values) (ms ++ x ∷ []))
+  judged = at (fresh (length values) ms) refl
+    where
+      at : (b : Bool) → fresh (length values) ms ≡ b → result_and sound (sound_if (free values n)) ≡ sound_if (fresh (length values) (ms ++ x ∷ []))
+      at true f = ap (λ s. result_and s (sound_if (free values n))) (h.judged ∙ ap sound_if f) ∙ ap sound_if (sym (fresh_given f))
+      at false f =
+          ap (λ s. result_and s (sound_if (free values n))) (h.judged ∙ ap sound_if f)
+          ∙ sym (ap sound_if (fresh_push (length values) ms x ∙ ap (λ b. b && (within (length values) x && not (given ms x.variable))) f))
 
-    none : (o : Option Bool) → is_some o ≡ false → o ≡ None
-    none (Some b) e = absurd (both_ways (is_some (Some b)) e refl)
-    none None e = refl
+  valued : fresh (length values) (ms ++ x ∷ []) ≡ true → (k : ℕ) → k < length values → get_or (set values (n.variable - 1) (Some n.positive)) k None ≡ value (ms ++ x ∷ []) (k + 1)
+  valued e k l =
+      let p = and_parts (fresh (length values) ms) (within (length values) x && not (given ms x.variable)) (sym (fresh_push (length values) ms x) ∙ e) in
+      let q = and_parts (within (length values) n) (not (is_some (get_or values (n.variable - 1) None))) (sym (fresh_given p.0) ∙ e) in
+      ⊎_elim (here p.0 q.0 (not-true (is_some (get_or values (n.variable - 1) None)) q.1)) (there p.0 q.0) (cases_eq k (n.variable - 1))
+    where
+      none : (o : Option Bool) → is_some o ≡ false → o ≡ None
+      none (Some b) e = absurd (both_ways (is_some (Some b)) e refl)
+      none None e = refl
 
-    old : s ≡ false → value ms x.variable ≡ None
-    old e = sym (h.valued e (x.variable - 1) (omega arith) ∙ ap (value ms) back) ∙ none (get_or values (x.variable - 1) None) n
+      here : fresh (length values) ms ≡ true → within (length values) n ≡ true → is_some (get_or values (n.variable - 1) None) ≡ false → k ≡ n.variable - 1 → get_or (set values (n.variable - 1) (Some n.positive)) k None ≡ value (ms ++ x ∷ []) (k + 1)
+      here f w g z =
+          let same : k + 1 ≡ x.variable = omega (arith, z, same_within w) in
+          let lt : n.variable - 1 < length values = omega arith in
+          ap (λ j. get_or (set values (n.variable - 1) (Some n.positive)) j None) z
+          ∙ get_or-set_same values (n.variable - 1) (Some n.positive) None lt
+          ∙ ap Some like.0
+          ∙ sym (ap (value (ms ++ x ∷ [])) same
+          ∙ value_push ms x x.variable
+          ∙ ap (λ o. or_else o (cond (eqb x.variable x.variable) (Some x.positive) None)) (sym (held f w) ∙ none (get_or values (n.variable - 1) None) g)
+          ∙ cond-true (eqb x.variable x.variable) (Some x.positive) None (eq-eqb x.variable x.variable refl))
 
-    at : (f : Bool) → fresh v ms ≡ f → fresh v ms ≡ (fresh v ms && (within v x && not (given ms x.variable)))
-    at false e = e ∙ sym (ap (λ f. f && (within v x && not (given ms x.variable))) e)
-    at true e =
-        e ∙ sym (ap (λ f. f && (within v x && not (given ms x.variable))) e
-        ∙ ap (λ b. b && not (given ms x.variable)) (and_from (leb 1 x.variable) (leb x.variable v) (le-leb 1 x.variable (omega arith)) (le-leb x.variable v q))
-        ∙ ap (λ o. not (is_some o)) (old (h.stranger ∙ ap not e)))
+      there : fresh (length values) ms ≡ true → within (length values) n ≡ true → (k ≡ n.variable - 1 → ⊥) → get_or (set values (n.variable - 1) (Some n.positive)) k None ≡ value (ms ++ x ∷ []) (k + 1)
+      there f w z =
+          get_or-set_other values (n.variable - 1) k (Some n.positive) None z
+          ∙ h.valued f k l
+          ∙ sym (value_push ms x (k + 1)
+          ∙ ap (or_else (value ms (k + 1))) (cond-false (eqb x.variable (k + 1)) (Some x.positive) None (ne_eqb x.variable (k + 1) (λ d. z (omega (arith, d, same_within w)))))
+          ∙ keep (value ms (k + 1)))
 
-    places : s ≡ false → (k : ℕ) → k < 2112 → get_or (set values (x.variable - 1) (Some x.positive)) k None ≡ value (ms ++ x ∷ []) (k + 1)
-    places e k l = ⊎_elim here there (cases_eq k (x.variable - 1))
-      where
-        here : k ≡ x.variable - 1 → get_or (set values (x.variable - 1) (Some x.positive)) k None ≡ value (ms ++ x ∷ []) (k + 1)
-        here z =
-            let same : k + 1 ≡ x.variable = omega (arith, z) in
-            let lt : x.variable - 1 < length values = omega (arith, h.sized) in
-            ap (λ j. get_or (set values (x.variable - 1) (Some x.positive)) j None) z
-            ∙ get_or-set_same values (x.variable - 1) (Some x.positive) None lt
-            ∙ sym (ap (value (ms ++ x ∷ [])) same
-            ∙ value_push ms x x.variable
-            ∙ ap (λ o. or_else o (cond (eqb x.variable x.variable) (Some x.positive) None)) (old e)
-            ∙ cond-true (eqb x.variable x.variable) (Some x.positive) None (eq-eqb x.variable x.variable refl))
+  pub holds_given : Holds (set values (n.variable - 1) (Some n.positive)) (result_and sound (sound_if (free values n))) (ms ++ x ∷ [])
+  holds_given =
+      let long : length (set values (n.variable - 1) (Some n.positive)) ≡ length values = length-set values (n.variable - 1) (Some n.positive) in
+      record {
+        judged = judged ∙ ap (λ v. sound_if (fresh v (ms ++ x ∷ []))) (sym long);
+        valued = λ e k l. valued (ap (λ v. fresh v (ms ++ x ∷ [])) (sym long) ∙ e) k (omega (arith, long));
+      }
 
-        there : (k ≡ x.variable - 1 → ⊥) → get_or (set values (x.variable - 1) (Some x.positive)) k None ≡ value (ms ++ x ∷ []) (k + 1)
-        there z =
-            get_or-set_other values (x.variable - 1) k (Some x.positive) None z
-            ∙ h.valued e k l
-            ∙ sym (value_push ms x (k + 1)
-            ∙ ap (or_else (value ms (k + 1))) (cond-false (eqb x.variable (k + 1)) (Some x.positive) None (ne_eqb x.variable (k + 1) (λ d. z (omega (arith, d)))))
-            ∙ keep (value ms (k + 1)))
+-- one literal more
+pub turn : (values values' : List (Option Bool)) (sound sound' r : Result (Unit {0}) Refusal) (ms : List Literal) (n : Literal) (whole before after : Option (List Literal)) → Holds values sound ms → whole ≡ join (Some ms) before → Takes before (Ok (Some n)) after → 0 < n.variable → length values ≤ 2112 → r ≡ sound_if (free values n) → values' ≡ set values (n.variable - 1) (Some n.positive) → sound' ≡ result_and sound r → (ms' : List Literal) × Holds values' sound' ms' × (whole ≡ join (Some ms') after)
+turn values values' sound sound' r ms n whole before after h e t some low a g s =
+    let x = t.0 in (
+      ms ++ x ∷ [],
+      subst (λ vs. Holds vs sound' (ms ++ x ∷ [])) (sym g)
+          (subst (λ q. Holds (set values (n.variable - 1) (Some n.positive)) q (ms ++ x ∷ [])) (sym (s ∙ ap (result_and sound) a))
+          (holds_given values sound ms n x h t.1 some low)),
+      e ∙ ap (join (Some ms)) t.2 ∙ regroup ms x after,
+    )

@@ -1,6 +1,6 @@
 -- The six questions and the meaning of their answers.
-use Rattle.std.proofs.Common.{◌≡◌, ℕ, Bool, true, false, cond, leb, List, [], ◌∷◌, ◌++◌, length, drop, Some, None, Ok, Err, Option, Result, sym, refl, ap, ◌∙◌, subst}
-use Rattle.std.proofs.lemmas.Bool.{cond-true, cond-false, cond_both, le-leb, lt-leb, leb-true, leb-false, both_ways}
+use Rattle.std.proofs.Common.{◌≡◌, ℕ, false, cond, leb, List, [], ◌∷◌, ◌++◌, length, drop, Some, None, Ok, Err, Option, Result, sym, refl, ap, ◌∙◌, subst}
+use Rattle.std.proofs.lemmas.Bool.{cond-true, cond-false, cond_both, le-leb, lt-leb, leb-true, leb-false, both_ways, false_from_ne_true}
 use Rattle.cnf.specs.Questions.{first_no}
 use Rattle.cnf.specs.declared.clause.Literal.{Literal}
 use Rattle.text.specs.Split.{lines, kept}
@@ -14,13 +14,8 @@ use Rattle.answers.specs.Grammar.{Begins, Says}
 use Rattle.answers.specs.Meaning.{Fits, Means, MakesTrue, Satisfied}
 use Rattle.answers.specs.Laws.{AnswerLaw}
 use Rattle.answers.proofs.Forms.{none_some}
-use Rattle.answers.proofs.Saying.{begins, status_at, verdict_at, model_at, said, starts, model-said}
+use Rattle.answers.proofs.Saying.{begins, status_at, verdict_at, said, starts, model-said}
 use Rattle.answers.proofs.Values.{sound_law, total_law, values_law}
-
--- what is answered where a test is decided
-false_if : (b : Bool) → (b ≡ true → ⊥) → b ≡ false
-false_if true n = absurd (n refl)
-false_if false n = refl
 
 abbrev Answered : Type 0
 Answered = Result Verdict Refusal
@@ -47,9 +42,6 @@ module _ (v : ℕ) (text : List ℕ) (room : ℕ) (fits : Fits v text room) wher
       to_status
       ∙ cond-true (is_status (first (kept (lines text)))) (last_three v (verdict_of text) (model_of text)) (Err Status) (status_at text w b)
       ∙ ap (λ u. last_three v u (model_of text)) (verdict_at text w b)
-
-  pub answer_at : (w : Verdict) (b : Begins text w) → answer v text room ≡ last_three v w (model w b.0)
-  answer_at w b = to_model w b ∙ ap (last_three v w) (model_at text w b)
 
   to_literals : (w : Verdict) (lits : List Literal) → Says text w lits → answer v text room ≡ last_three v w (Some lits)
   to_literals w lits s = to_model w (starts text w lits s) ∙ ap (last_three v w) (model-said text w lits s)
@@ -92,7 +84,7 @@ answered v text room (Err AreaLength) m =
     cond-true (leb (length text) 60000) (cond (leb v room) (from_status v text) (Err AreaLength)) (Err TextLength) (le-leb (length text) 60000 m.0)
     ∙ cond-false (leb v room) (from_status v text) (Err AreaLength) (lt-leb v room m.1)
 answered v text room (Err Status) m =
-    no_status v text room m.0 (false_if (is_status (first (kept (lines text)))) (λ t. m.1 (verdict_of text) (begins text t)))
+    no_status v text room m.0 (false_from_ne_true (is_status (first (kept (lines text)))) (λ t. m.1 (verdict_of text) (begins text t)))
 answered v text room (Err Form) m =
     to_model v text room m.0 m.1 m.2 ∙ none (model_of text) refl
   where
@@ -101,11 +93,11 @@ answered v text room (Err Form) m =
     none (Some lits) e = absurd (m.3 lits (said text m.1 lits m.2 e))
 answered v text room (Err Variable) m =
     to_literals v text room m.0 m.1 m.2 m.3
-    ∙ cond-false (fresh v m.2) _ (Err Variable) (false_if (fresh v m.2) (λ t. m.4 ((sound_law v m.2).0 t)))
+    ∙ cond-false (fresh v m.2) _ (Err Variable) (false_from_ne_true (fresh v m.2) (λ t. m.4 ((sound_law v m.2).0 t)))
 answered v text room (Err Missing) m =
     to_literals v text room m.0 Satisfiable m.1 m.2
     ∙ cond-true (fresh v m.1) (cond (complete v m.1) (Ok Satisfiable) (Err Missing)) (Err Variable) ((sound_law v m.1).1 m.3)
-    ∙ cond-false (complete v m.1) (Ok Satisfiable) (Err Missing) (false_if (complete v m.1) (λ t. m.4 ((total_law v m.1).0 t)))
+    ∙ cond-false (complete v m.1) (Ok Satisfiable) (Err Missing) (false_from_ne_true (complete v m.1) (λ t. m.4 ((total_law v m.1).0 t)))
 answered v text room (Ok Satisfiable) m =
     to_literals v text room m.0 Satisfiable m.1 m.2
     ∙ cond-true (fresh v m.1) (cond (complete v m.1) (Ok Satisfiable) (Err Missing)) (Err Variable) ((sound_law v m.1).1 m.3)

@@ -4,7 +4,7 @@ use Rattle.std.specs.List.{AllByRecursion}
 use Rattle.std.specs.Str.{bytes_eq}
 use Rattle.std.proofs.ByRecursion.{All-append}
 use Rattle.std.proofs.lemmas.Slice.Eq.{bytes_eq-Decides}
-use Rattle.std.proofs.lemmas.Bool.{cond-true, cond-false, both_ways, and_parts, not-true, eqb-false}
+use Rattle.std.proofs.lemmas.Bool.{cond-true, cond-false, both_ways, and_parts, not-true, eqb-false, false_from_ne_true}
 use Rattle.std.proofs.lemmas.List.{length-append}
 use Rattle.cnf.specs.declared.clause.Literal.{Literal}
 use Rattle.text.specs.Split.{lines, kept}
@@ -50,12 +50,13 @@ begins text e = at (kept (lines text)) refl e
     at [] q s = absurd (both_ways (is_status []) refl s)
     at (l ∷ ls) q s = (ls, q ∙ ap (λ x. x ∷ ls) (status_only l s) ∙ ap (λ k. verdict_line (verdict (first k)) ∷ ls) (sym q))
 
--- by the line that was found
-abbrev pub begins_with : (text l : List ℕ) (ls : List (List ℕ)) (w : Verdict) → kept (lines text) ≡ l ∷ ls → true ≡ bytes_eq l (verdict_line w) → Begins text w
-begins_with text l ls w e t = (ls, e ∙ ap (λ x. x ∷ ls) ((bytes_eq-Decides l (verdict_line w)).0 (sym t)))
-
-pub not_status : (text l : List ℕ) (ls : List (List ℕ)) → kept (lines text) ≡ l ∷ ls → false ≡ bytes_eq l (verdict_line Satisfiable) → false ≡ bytes_eq l (verdict_line Unsatisfiable) → is_status (first (kept (lines text))) ≡ false
-not_status text l ls e s u = ap (λ k. is_status (first k)) e ∙ ap (λ b. b || bytes_eq l (verdict_line Unsatisfiable)) (sym s) ∙ sym u
+-- a line that is none of the two
+pub no_status_line : (l : List ℕ) → (l ≡ verdict_line Satisfiable → ⊥) → (l ≡ verdict_line Unsatisfiable → ⊥) → is_status l ≡ false
+no_status_line l s u = false_from_ne_true (is_status l) (λ e. one (verdict l) (status_only l e))
+  where
+    one : (w : Verdict) → l ≡ verdict_line w → ⊥
+    one Satisfiable e = s e
+    one Unsatisfiable e = u e
 
 module _ (text : List ℕ) (w : Verdict) (b : Begins text w) where
   pub status_at : is_status (first (kept (lines text))) ≡ true
@@ -75,7 +76,7 @@ follows Unsatisfiable (l ∷ ls) lits e = absurd (none_some lits e)
 followed : (w : Verdict) (ls : List (List ℕ)) (lits : List Literal) → Follows w ls lits → model w ls ≡ Some lits
 followed Satisfiable ls lits f = (literals_law ls lits).1 f
 followed Unsatisfiable [] lits f = ap Some (sym f.1)
-followed Unsatisfiable (l ∷ ls) lits f = absurd (let z : ◌≡◌ {A = ℕ} 0 1 = cc in omega arith)
+followed Unsatisfiable (l ∷ ls) lits f = absurd (cc)
 
 pub said : (text : List ℕ) (w : Verdict) (lits : List Literal) → Begins text w → model_of text ≡ Some lits → Says text w lits
 said text w lits b m = record { after = b.0; made = b.1; follows = follows w b.0 lits (sym (model_at text w b) ∙ m) }

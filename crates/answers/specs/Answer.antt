@@ -56,9 +56,13 @@ text_asks v text room =
     ∷ ask (is_status (first (kept (lines text)))) Status
     ∷ []
 
+-- questions 46 and 47, of literals
+abbrev pub value_asks : ℕ → Option (List Literal) → List (Question Refusal)
+value_asks v o = ask (is_some o) Form ∷ ask (fresh v (or_empty o)) Variable ∷ []
+
 -- questions 46 to 48, of a verdict and its literals
 abbrev pub model_asks : ℕ → Verdict → Option (List Literal) → List (Question Refusal)
-model_asks v w o = ask (is_some o) Form ∷ ask (fresh v (or_empty o)) Variable ∷ ask (all_given w v (or_empty o)) Missing ∷ []
+model_asks v w o = value_asks v o ++ ask (all_given w v (or_empty o)) Missing ∷ []
 
 -- the verdict of a text and its literals
 abbrev pub verdict_of : List ℕ → Verdict

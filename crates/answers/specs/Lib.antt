@@ -9,4 +9,5 @@ pub mod Meaning
 pub mod Laws
 pub mod Cases
 pub mod Cap
-pub mod Progress
+pub mod Left
+pub mod Held

@@ -1,6 +1,7 @@
 // The answer of a SAT solver, read from its text.
 #![tactic(auto)]
 
+mod literals;
 mod numbers;
 pub mod reading;
 pub mod refusals;

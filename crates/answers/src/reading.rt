@@ -8,33 +8,30 @@ ghost use Rattle.answers.specs.Answer.{answer, area_after, model, model_asks, mo
 ghost use Rattle.answers.specs.Meaning.{Means, Satisfied};
 
 use crate::refusals::Refusal;
-use crate::valuation::Valuation;
+use crate::valuation::{are_given, give_all, write};
 use crate::verdicts::Verdict;
 use job::state::Setup;
-use text::splitting::{next_line, same};
+use text::splitting::next_line;
 
 const LONGEST_TEXT: usize = 60_000;
 
-// What the lines after SATISFIABLE say, by questions 46 to 48.
-fn read_values(text: &[u8], highest: usize, area: &mut [u8]) -> Result<Verdict, Refusal>
-    requires { (highest ≤ 2112) × (highest ≤ length area.old) }
-    ensures said { result ≡ first_no (model_asks highest Verdict.Satisfiable (literals (kept (lines text.now)))) Verdict.Satisfiable }
-    ensures written { area.new ≡ area_after highest result (literals (kept (lines text.now))) area.old }
+// What the lines after SATISFIABLE say of the variables that have a byte in the area, by questions 46 to 48.
+fn read_values(text: &[u8], area: &mut [u8]) -> Result<Verdict, Refusal>
+    requires { length area.old ≤ 2112 }
+    ensures said { result ≡ first_no (model_asks (length area.old) Verdict.Satisfiable (literals (kept (lines text.now)))) Verdict.Satisfiable }
+    ensures written { area.new ≡ area_after (length area.old) result (literals (kept (lines text.now))) area.old }
 {
-    let Some(valuation) = Valuation::read(text, highest) else {
-        return Err(Refusal::Form);
-    };
-    if valuation.is_strange() {
-        return Err(Refusal::Variable);
-    }
-    if !valuation.has_all(highest) {
+    let mut most = [None; Setup::MOST_VARIABLES];
+    let values = &mut most[..area.len()];
+    give_all(values, text)?;
+    if !are_given(values) {
         return Err(Refusal::Missing);
     }
-    valuation.write_to(area, highest);
+    write(values, area);
     Ok(Verdict::Satisfiable)
 }
 
-// What the lines after UNSATISFIABLE say, by the same questions.
+// What the lines after UNSATISFIABLE say, by the same questions: no line is the answer, and a line a refusal.
 fn read_no_values(text: &[u8]) -> Result<Verdict, Refusal>
     ensures { (v : ℕ) → result ≡ first_no (model_asks v Verdict.Unsatisfiable (model Verdict.Unsatisfiable (kept (lines text.now)))) Verdict.Unsatisfiable }
 {
@@ -56,16 +53,11 @@ fn read_for(highest: usize, text: &[u8], area: &mut [u8]) -> Result<Verdict, Ref
     if area.len() < highest {
         return Err(Refusal::AreaLength);
     }
-    let Some((first, rest)) = next_line(text) else {
-        return Err(Refusal::Status);
-    };
-    if same(first, b"s SATISFIABLE") {
-        return read_values(rest, highest, area);
+    let (first, rest) = next_line(text).ok_or(Refusal::Status)?;
+    match Verdict::of_line(first).ok_or(Refusal::Status)? {
+        Verdict::Satisfiable => read_values(rest, &mut area[..highest]),
+        Verdict::Unsatisfiable => read_no_values(rest),
     }
-    if same(first, b"s UNSATISFIABLE") {
-        return read_no_values(rest);
-    }
-    Err(Refusal::Status)
 }
 
 // Reads the answer of a solver to the clauses of a job. After SATISFIABLE the values of the job's variables go to the area.

@@ -5,17 +5,17 @@ ghost use Rattle.answers.specs.Refusals.{number};
 #[derive(Clone, Copy, PartialEq, Eq, Debug)]
 pub enum Refusal {
     // the text has more than 60,000 bytes
-    TextLength,
+    TextLength = 43,
     // the area has fewer bytes than the job has variables
-    AreaLength,
+    AreaLength = 44,
     // the first line is no verdict
-    Status,
+    Status = 45,
     // the other lines do not have the form of the verdict
-    Form,
+    Form = 46,
     // a variable is not one of the job's, or comes twice
-    Variable,
+    Variable = 47,
     // a variable of the job is not given
-    Missing,
+    Missing = 48,
 }
 
 impl Refusal {
@@ -23,13 +23,6 @@ impl Refusal {
     pub fn number(self) -> u8
         ensures { result ≡ number self }
     {
-        match self {
-            Refusal::TextLength => 43,
-            Refusal::AreaLength => 44,
-            Refusal::Status => 45,
-            Refusal::Form => 46,
-            Refusal::Variable => 47,
-            Refusal::Missing => 48,
-        }
+        self as u8
     }
 }

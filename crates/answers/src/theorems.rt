@@ -2,8 +2,8 @@
 ghost use Rattle.answers.specs.Laws.{LineLaw, LiteralsLaw, SaysLaw, ToldLaw, SoundLaw, TotalLaw, ValuesLaw, AnswerLaw};
 ghost use Rattle.answers.specs.Cases.{Cases};
 
-// The laws of the form hold; the answer has no meaning of its own.
-pub fn form_stands() -> u8
+// The laws of the form hold.
+pub fn form_stands()
     ensures line { LineLaw }
     ensures literals { LiteralsLaw }
     ensures says { SaysLaw }
@@ -12,13 +12,9 @@ pub fn form_stands() -> u8
     ensures total { TotalLaw }
     ensures values { ValuesLaw }
     ensures answer { AnswerLaw }
-{
-    0
-}
+{}
 
-// The cases stand; the answer has no meaning of its own.
-pub fn cases_stand() -> u8
+// The cases stand.
+pub fn cases_stand()
     ensures { Cases }
-{
-    0
-}
+{}

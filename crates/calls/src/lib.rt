@@ -1,26 +1,37 @@
-// The calls of a job as values, and on the lines of a script.
+// The calls of a job as values.
 #![tactic(auto)]
 
 ghost use Rattle.std.specs.Prelude.{◌≡◌};
 
-pub mod lines;
+pub mod records;
 
-use job::call::Call;
+use records::{Begin, Define, Require};
+
+#[derive(Clone, Copy, Debug, PartialEq, Eq)]
+pub enum Call {
+    Begin(Begin),
+    Define(Define),
+    Require(Require),
+}
 
 pub fn beginning(bound: u8) -> Call
-    ensures { result ≡ Call.Begin bound }
+    ensures { result ≡ Call.Begin (record { bound = bound }) }
 {
-    Call::Begin(bound)
+    Call::Begin(Begin { bound })
 }
 
 pub fn defining(code: u8, a: u8, b: u8, t: u8) -> Call
-    ensures { result ≡ Call.Define code a b t }
+    ensures { result ≡ Call.Define (record { code = code; a = a; b = b; t = t }) }
 {
-    Call::Define(code, a, b, t)
+    Call::Define(Define { code, a, b, t })
 }
 
 pub fn requiring(row: u8, instant: u8, value: u8) -> Call
-    ensures { result ≡ Call.Require row instant value }
+    ensures { result ≡ Call.Require (record { row = row; instant = instant; value = value }) }
 {
-    Call::Require(row, instant, value)
+    Call::Require(Require {
+        row,
+        instant,
+        value,
+    })
 }

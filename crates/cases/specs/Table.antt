@@ -6,8 +6,8 @@ use Rattle.cnf.specs.Clauses.{Clause, asserted, negated, within}
 use Rattle.cnf.specs.Layers.{switch_model}
 use Rattle.cnf.specs.Questions.{first_no}
 use Rattle.cnf.specs.Refusals.{verdict}
-use Rattle.job.specs.declared.call.Call.{Call}
-use Rattle.job.specs.declared.call.Call.TheVariants.{Begin, Define, Require}
+use Rattle.calls.specs.declared.Call.{Call}
+use Rattle.calls.specs.declared.Call.TheVariants.{Begin, Define, Require}
 use Rattle.sinks.specs.declared.writer.Writer.{Writer}
 use Rattle.sinks.specs.Lines.{line, writer_cells}
 use Rattle.sinks.specs.Models.{writer_model, LineFollows}
@@ -17,7 +17,7 @@ use Rattle.mtl.specs.Runs.{word, Settled}
 use Rattle.text.specs.Split.{lines}
 use Rattle.frames.specs.declared.refusals.Refusal.TheVariants.{Sum}
 use Rattle.frames.specs.Numbers.{number as line_number}
-use Rattle.calls.specs.Lines.{calling}
+use Rattle.frames.specs.Script.{calling}
 use Rattle.job.specs.declared.refusal.Refusal.TheVariants.{Bound}
 use Rattle.job.specs.declared.call.Reply.TheVariants as reply
 use Rattle.job.specs.Calls.{Answer, fresh, begin_asks, highest}
@@ -32,10 +32,10 @@ four_lines = codes "B00050\nD0010000002F\nD0050000002B\nE00100011E\n"
 
 abbrev pub four_calls : List Call
 four_calls =
-    Begin 0
-    ∷ Define 1 0 0 0
-    ∷ Define 5 0 0 0
-    ∷ Require 1 0 1
+    Begin (record { bound = 0 })
+    ∷ Define (record { code = 1; a = 0; b = 0; t = 0 })
+    ∷ Define (record { code = 5; a = 0; b = 0; t = 0 })
+    ∷ Require (record { row = 1; instant = 0; value = 1 })
     ∷ []
 
 abbrev pub four_answers : List Answer

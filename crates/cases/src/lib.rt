@@ -3,9 +3,7 @@
 
 ghost use Rattle.cases.specs.Table.{Cases};
 
-// Each case stands; the answer has no meaning of its own.
-pub fn ten_cases() -> u8
+// Each case stands.
+pub fn ten_cases()
     ensures { Cases }
-{
-    0
-}
+{}

@@ -22,6 +22,10 @@ negated v = record { variable = v; positive = false }
 abbrev pub opposite : Literal → Literal
 opposite l = record { variable = l.variable; positive = not l.positive }
 
+-- the literal l, or its opposite where b is false
+abbrev pub given : Bool → Literal → Literal
+given b l = cond b l (opposite l)
+
 abbrev pub truth : Assignment → Literal → Bool
 truth α l = cond l.positive (α l.variable) (not (α l.variable))
 

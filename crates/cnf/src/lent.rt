@@ -2,7 +2,6 @@
 ghost use Rattle.cnf.specs.Layers.{lent_model};
 
 use crate::clause::Literal;
-use crate::refusal::Refusal;
 use crate::sink::Sink;
 
 impl<'a, S: Sink> Sink for &'a mut S {
@@ -24,7 +23,7 @@ impl<'a, S: Sink> Sink for &'a mut S {
         S::count(*self)
     }
 
-    fn take(&mut self, clause: &[Literal]) -> Result<(), Refusal> {
-        S::take(*self, clause)
+    fn accept(&mut self, clause: &[Literal]) {
+        S::accept(*self, clause)
     }
 }

@@ -4,14 +4,14 @@ ghost use Rattle.cnf.specs.Refusals.{number, verdict};
 
 use crate::clause::{Literal, in_range};
 
-#[derive(Clone, Copy)]
+#[derive(Clone, Copy, Debug, PartialEq, Eq)]
 pub enum Refusal {
     // the number of literals is not between 1 and the longest
-    Length,
+    Length = 40,
     // some variable is not between 1 and the highest
-    Variable,
+    Variable = 41,
     // fewer cells are free than the clause has literals and one more
-    Cells,
+    Cells = 42,
 }
 
 impl Refusal {
@@ -19,11 +19,7 @@ impl Refusal {
     pub fn number(self) -> u32
         ensures { result ≡ number self }
     {
-        match self {
-            Refusal::Length => 40,
-            Refusal::Variable => 41,
-            Refusal::Cells => 42,
-        }
+        self as u32
     }
 }
 
@@ -37,7 +33,7 @@ pub fn examine(
     ensures { result ≡ verdict longest highest cells clause.now }
 {
     let n = clause.len();
-    if n < 1 || n > longest {
+    if clause.is_empty() || n > longest {
         return Err(Refusal::Length);
     }
     if !in_range(highest, clause) {

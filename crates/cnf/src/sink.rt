@@ -3,13 +3,16 @@ ghost use Rattle.std.specs.Prelude.{◌≡◌, true, false, is_ok};
 ghost use Rattle.cnf.specs.Sinks.{Model, Taken, answer};
 
 use crate::clause::Literal;
-use crate::refusal::Refusal;
+use crate::refusal::{Refusal, examine};
+
+// The most literals that a clause has, whatever the sink.
+pub const LONGEST_CLAUSE: usize = 40;
 
 pub trait Sink {
     // the assignments that it watches, which of them are still in, and what it asks of a clause
     ghost model: { Model Self };
 
-    // The number of literals that a clause may have at most, never above 40.
+    // The number of literals that a clause may have at most, never above `LONGEST_CLAUSE`.
     fn longest_clause(&self) -> usize
         ensures { result ≡ model.longest self.now };
 
@@ -24,9 +27,22 @@ pub trait Sink {
     fn count(&self) -> usize
         ensures { result ≡ model.count self.now };
 
+    // Takes a clause that this sink has no reason to refuse.
+    fn accept(&mut self, clause: &[Literal])
+        requires { answer model self.old clause.now ≡ Ok tt }
+        ensures { Taken model clause.now self.old self.new };
+
     // Takes a clause, or says why not and stays as it was.
     fn take(&mut self, clause: &[Literal]) -> Result<(), Refusal>
         ensures answer { result ≡ answer model self.old clause.now }
         ensures refused { is_ok result ≡ false → self.new ≡ self.old }
-        ensures taken { is_ok result ≡ true → Taken model clause.now self.old self.new };
+        ensures taken { is_ok result ≡ true → Taken model clause.now self.old self.new }
+    {
+        let longest = (*self).longest_clause();
+        let highest = (*self).highest_variable();
+        let cells = (*self).free_cells();
+        examine(longest, highest, cells, clause)?;
+        self.accept(clause);
+        Ok(())
+    }
 }

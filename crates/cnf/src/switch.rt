@@ -1,28 +1,30 @@
 // A sink over any sink, for clauses that bind only where one variable is true.
-ghost use Rattle.std.specs.Prelude.{◌≡◌, ◌+◌, ◌<◌, true, false, ◌∷◌, length, take, is_ok};
-ghost use Rattle.cnf.specs.Layers.{usable, switch_model};
+ghost use Rattle.std.specs.Prelude.{◌≡◌, ◌<◌, true, false, ◌∷◌, length, is_ok};
+ghost use Rattle.bounded.specs.Items.{items};
+ghost use Rattle.cnf.specs.Layers.{switch_model};
 ghost use Rattle.cnf.specs.Sinks.{Taken, answer};
 
 use crate::clause::Literal;
-use crate::refusal::{Refusal, examine};
-use crate::sink::Sink;
+use crate::refusal::Refusal;
+use crate::sink::{LONGEST_CLAUSE, Sink};
+use bounded::Bounded;
 
 // Hands each clause to the sink below with the negated variable in front.
-#[derive(Drop)]
+#[derive(Debug, Drop)]
 pub struct Switch<S> {
     pub below: S,
     pub variable: u32,
 }
 
-// `first` and then the literals of `clause`, at the front of an array.
-fn prefixed(first: Literal, clause: &[Literal]) -> [Literal; 40]
-    requires { length clause.now < 40 }
-    ensures { take (length clause.now + 1) result ≡ first ∷ clause.now }
+// `first` and then the literals of `clause`.
+fn prefixed(first: Literal, clause: &[Literal]) -> Bounded<Literal, LONGEST_CLAUSE>
+    requires { length clause.now < LONGEST_CLAUSE }
+    ensures { items result ≡ first ∷ clause.now }
 {
-    let mut buffer = [first; 40];
-    let n = clause.len();
-    buffer[1..n + 1].copy_from_slice(clause);
-    buffer
+    let mut literals = Bounded::new(first);
+    literals.push(first);
+    literals.extend(clause);
+    literals
 }
 
 impl<S> Switch<S> {
@@ -33,18 +35,12 @@ impl<S> Switch<S> {
     }
 }
 
-// Whether a variable is one of a sink with this highest variable.
-fn is_usable(variable: u32, highest: u32) -> bool
-    ensures { result ≡ usable variable highest }
-{
-    1 <= variable && variable <= highest
-}
-
 impl<S: Sink> Sink for Switch<S> {
     ghost model = { switch_model S.Sink.model };
 
     fn longest_clause(&self) -> usize {
-        if is_usable(self.variable, self.below.highest_variable()) {
+        let switch = Literal::asserted(self.variable);
+        if switch.within(self.below.highest_variable()) {
             self.below.longest_clause().saturating_sub(1)
         } else {
             0
@@ -63,18 +59,9 @@ impl<S: Sink> Sink for Switch<S> {
         self.below.count()
     }
 
-    fn take(&mut self, clause: &[Literal]) -> Result<(), Refusal> {
-        let longest = (*self).longest_clause();
-        let highest = (*self).highest_variable();
-        let cells = (*self).free_cells();
-        examine(longest, highest, cells, clause)?;
-        let first = Literal {
-            variable: self.variable,
-            positive: false,
-        };
-        let buffer = prefixed(first, clause);
-        let n = clause.len();
-        self.below.take(&buffer[0..n + 1])
+    fn accept(&mut self, clause: &[Literal]) {
+        let switched = prefixed(Literal::negated(self.variable), clause);
+        self.below.accept(switched.as_slice());
     }
 }
 

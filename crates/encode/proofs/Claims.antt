@@ -1,13 +1,14 @@
 -- The claims behind a guard, cut where the code cuts them.
-use Rattle.std.proofs.Common.{◌≡◌, ◌≤◌, List, [], ◌∷◌, ◌++◌, map, length, Some, None, Option, sym, refl, ap, ◌∙◌, map-id, arith, length-take}
+use Rattle.std.proofs.Common.{◌≡◌, List, [], ◌∷◌, ◌++◌, map, Some, None, Option, sym, refl, ap, ◌∙◌, map-id}
 use mathlib.Core.List.{map-map, map-append}
 use Rattle.cnf.specs.declared.clause.Literal.{Literal}
 use Rattle.cnf.specs.Clauses.{Clauses, opposite}
 use Rattle.mtl.specs.Shapes.{any, all}
-use Rattle.encode.specs.declared.buffer.Listed.{Listed}
+use Rattle.bounded.specs.declared.bounded.Bounded.{Bounded}
+use Rattle.bounded.specs.Items.{items}
 use Rattle.encode.specs.declared.part.Claim.{Claim}
 use Rattle.encode.specs.declared.part.Claim.TheVariants as claim
-use Rattle.encode.specs.Parts.{held, behind, under, claimed}
+use Rattle.encode.specs.Parts.{behind, under, claimed}
 
 pub under-behind : (g : Option Literal) (cs : Clauses) → under g cs ≡ map (behind g) cs
 under-behind None cs = sym (map-id cs)
@@ -26,13 +27,9 @@ module _ (g : Option Literal) (x y : Literal) (gs hs : List Literal) (e : y ≡ 
       (map-append (behind g) (map (λ z. opposite x ∷ z ∷ []) gs) ((x ∷ map opposite gs) ∷ [])
       ∙ ap (λ l. l ++ (behind g (x ∷ map opposite gs) ∷ [])) (map-map (behind g) (λ z. opposite x ∷ z ∷ []) gs))
 
-module _ (l : List Literal) (gs : Listed) (e : l ≡ held gs.literals) where
-  pub held_few : length l ≤ 32
-  held_few = rw (e, length-take) (omega arith)
+module _ (l : List Literal) (gs : Bounded Literal 32) (e : l ≡ items gs) (g : Option Literal) (c : Claim) (x : Literal) where
+  pub any_held : c ≡ claim.Any x gs → under g (claimed c) ≡ map (behind g) (any x l)
+  any_held is = rw (is, e) (under-behind g (any x (items gs)))
 
-  module _ (g : Option Literal) (c : Claim) (x : Literal) where
-    pub any_held : c ≡ claim.Any x gs → under g (claimed c) ≡ map (behind g) (any x l)
-    any_held is = rw (is, e) (under-behind g (any x (held gs.literals)))
-
-    pub all_held : c ≡ claim.All x gs → under g (claimed c) ≡ map (behind g) (all x l)
-    all_held is = rw (is, e) (under-behind g (all x (held gs.literals)))
+  pub all_held : c ≡ claim.All x gs → under g (claimed c) ≡ map (behind g) (all x l)
+  all_held is = rw (is, e) (under-behind g (all x (items gs)))

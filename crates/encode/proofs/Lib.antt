@@ -1,3 +1,3 @@
 pub mod Receive
-pub mod Windows
+pub mod Spans
 pub mod Claims

@@ -1,27 +1,21 @@
 -- The clauses of each part at an instant, and of each claim.
-use Rattle.std.specs.Prelude.{ℕ, suc, ◌+◌, ◌-◌, ◌%◌, min, Bool, cond, List, ◌∷◌, take, Some, None, Option, nat_le}
+use Rattle.std.specs.Prelude.{◌≡◌, ℕ, suc, ◌+◌, ◌-◌, ◌%◌, ◌<◌, Bool, cond, ◌∷◌, Some, None, Option, nat_le}
 use Rattle.cnf.specs.declared.clause.Literal.{Literal}
 use Rattle.cnf.specs.Clauses.{Clause, Clauses, opposite}
+use Rattle.bounded.specs.Items.{items}
 use Rattle.mtl.specs.Shapes.{same, both, either, upto, hold, any, all, given, unit, when, each, Lits, span, down}
 use Rattle.mtl.specs.Rows.{Subject, operand, itself, Past, looks_back}
 use Rattle.mtl.specs.Lists.{starts, inside, block, period, ahead, closed_at, subject_of}
-use Rattle.encode.specs.declared.buffer.Buffer.{Buffer}
 use Rattle.encode.specs.declared.place.Place.{Place}
 use Rattle.encode.specs.declared.part.Back.{Back}
 use Rattle.encode.specs.declared.part.Guard.{Guard}
 use Rattle.encode.specs.declared.part.Guard.TheVariants.{Always, Inside, Start, StartAt}
 use Rattle.encode.specs.declared.part.Link.{Link}
 use Rattle.encode.specs.declared.part.Link.TheVariants.{Next, Until, Release}
-use Rattle.encode.specs.declared.part.Window.{Window}
-use Rattle.encode.specs.declared.part.Window.TheVariants as window
 use Rattle.encode.specs.declared.part.Part.{Part}
 use Rattle.encode.specs.declared.part.Part.TheVariants as part
 use Rattle.encode.specs.declared.part.Claim.{Claim}
 use Rattle.encode.specs.declared.part.Claim.TheVariants as claim
-
--- the literals that a buffer holds
-abbrev pub held : Buffer → List Literal
-held b = take b.len b.items
 
 -- a clause behind the opposite of its guard
 abbrev pub behind : Option Literal → Clause → Clause
@@ -35,8 +29,8 @@ claimed (claim.Both x a b) = both x a b
 claimed (claim.Either x a b) = either x a b
 claimed (claim.Upto x b a y) = upto x b a y
 claimed (claim.Hold x b a y) = hold x b a y
-claimed (claim.Any x gs) = any x (held gs.literals)
-claimed (claim.All x gs) = all x (held gs.literals)
+claimed (claim.Any x gs) = any x (items gs)
+claimed (claim.All x gs) = all x (items gs)
 
 -- the clauses bind only where the guard is true
 abbrev pub under : Option Literal → Clauses → Clauses
@@ -62,21 +56,9 @@ linked p Next i n = same (lits_x p i) (lits_a p n)
 linked p Until i n = upto (lits_x p i) (lits_b p i) (lits_a p i) (lits_x p n)
 linked p Release i n = hold (lits_x p i) (lits_b p i) (lits_a p i) (lits_x p n)
 
-abbrev pub windowed : Place → Window → ℕ → List Literal
-windowed p window.Starts i = span starts 0 (suc p.k)
-windowed p (window.Ahead t) i = span (ahead p.k (lits_a p) (lits_e p)) i (suc t.value)
-windowed p (window.Back t) i = down (lits_a p) i t.value
-
--- the literal at place j of a window, and how many it has
-abbrev pub window_literal : Place → Window → ℕ → ℕ → Literal
-window_literal p window.Starts i j = starts j
-window_literal p (window.Ahead t) i j = ahead p.k (lits_a p) (lits_e p) (i + j)
-window_literal p (window.Back t) i j = lits_a p (i - j)
-
-abbrev pub window_length : Place → Window → ℕ → ℕ
-window_length p window.Starts i = suc p.k
-window_length p (window.Ahead t) i = suc t.value
-window_length p (window.Back t) i = suc (min t.value i)
+-- what answers so gives the literals of f at the first n instants
+abbrev pub Gives : (ℕ → Literal → Type 0) → ℕ → Lits → Type 0
+Gives answers n f = (j : ℕ) (l : Literal) → j < n → answers j l → l ≡ f j
 
 abbrev pub guard_at : Place → Guard → ℕ → Option Literal
 guard_at p Always i = None
@@ -121,8 +103,10 @@ claimed_at p (part.Around r) l = linked p r p.k l
 claimed_at p (part.Backward r) i = linked p r (suc i) i
 claimed_at p (part.Seen v) i = seen_at p v i
 claimed_at p (part.After t) i = same (lits_x p i) (ahead p.k (lits_a p) (lits_e p) (i + t.value))
-claimed_at p (part.Any w) i = any (lits_x p i) (windowed p w i)
-claimed_at p (part.All w) i = all (lits_x p i) (windowed p w i)
+claimed_at p (part.Within t) i = any (lits_x p i) (span (ahead p.k (lits_a p) (lits_e p)) i (suc t.value))
+claimed_at p (part.Throughout t) i = all (lits_x p i) (span (ahead p.k (lits_a p) (lits_e p)) i (suc t.value))
+claimed_at p (part.Lately t) i = any (lits_x p i) (down (lits_a p) i t.value)
+claimed_at p (part.Steadily t) i = all (lits_x p i) (down (lits_a p) i t.value)
 claimed_at p (part.Beyond j) l = same (lits_e p j.value) (lits_a p (l + j.value % period p.k l))
 claimed_at p (part.Delayed t v) i = delayed_at p t.value v i
 claimed_at p (part.Closed s l) j = past_at p s l.value j

@@ -1,14 +1,18 @@
 // The clauses of claims and parts, handed to a receiver.
+//
+// The receiver and the guard are two parameters. A struct of both would hold a loan: each of its methods had to promise too
+// that it keeps the guard and the loan.
 ghost use Rattle.std.specs.Prelude.{◌≡◌, ◌<◌, ◌≤◌, [], ◌∷◌, map, length};
 ghost use Rattle.cnf.specs.Clauses.{opposite};
 ghost use Rattle.mtl.specs.Shapes.{upto, hold, any, all, each};
-ghost use Rattle.encode.specs.Parts.{held, behind, under, claimed, clauses_at};
+ghost use Rattle.bounded.specs.Items.{items};
+ghost use Rattle.encode.specs.Parts.{behind, under, claimed, clauses_at};
 
 use super::Receiver;
-use super::buffer::Buffer;
 use super::part::{Claim, Guard, Part};
 use super::place::Place;
 use super::step::{claim_of, guard_of};
+use bounded::Bounded;
 use cnf::clause::Literal;
 
 // The clause of the first literal and the rest, behind the guard.
@@ -22,7 +26,7 @@ pub fn put_clause<R: Receiver>(
     requires small { length rest.now ≤ 32 }
     ensures { R.Receiver.reception.took out.old (behind guard (first ∷ rest.now) ∷ []) out.new }
 {
-    let mut clause = Buffer::new();
+    let mut clause: Bounded<Literal, 40> = Bounded::new(first);
     if let Some(literal) = guard {
         clause.push(literal.opposite());
     }
@@ -41,18 +45,18 @@ fn put_pairs<R: Receiver>(out: &mut R, guard: Option<Literal>, first: Literal, o
     }
 }
 
-fn opposites(literals: &[Literal]) -> Buffer
+fn opposites(literals: &[Literal]) -> Bounded<Literal, 32>
     requires { length literals.now ≤ 32 }
-    ensures items { held result ≡ map opposite literals.now }
-    ensures len { result.len ≡ length literals.now }
+    ensures { items result ≡ map opposite literals.now }
 {
-    let mut flipped = Buffer::new();
+    let mut flipped = Bounded::new(Literal::asserted(0));
     for literal in literals {
         flipped.push(literal.opposite());
     }
     flipped
 }
 
+// `all` is not `any` of the opposites: its clauses come in the other order, the pairs first.
 fn write_any<R: Receiver>(out: &mut R, guard: Option<Literal>, x: Literal, gs: &[Literal])
     requires room { R.Receiver.reception.fits out.old (map (behind guard) (any x gs.now)) }
     requires small { length gs.now ≤ 32 }
@@ -73,27 +77,23 @@ fn write_all<R: Receiver>(out: &mut R, guard: Option<Literal>, x: Literal, gs: &
     put_clause(out, guard, x, flipped.as_slice());
 }
 
-// Two clauses with the opposite of x, and two with x.
-fn write_four<R: Receiver>(
+// The first literal in a clause with each of two lists.
+fn put_two<R: Receiver>(
     out: &mut R,
     guard: Option<Literal>,
-    x: Literal,
+    first: Literal,
     a: &[Literal],
     b: &[Literal],
-    c: &[Literal],
-    d: &[Literal],
 )
-    requires room { R.Receiver.reception.fits out.old (map (behind guard) ((opposite x ∷ a.now) ∷ (opposite x ∷ b.now) ∷ (x ∷ c.now) ∷ (x ∷ d.now) ∷ [])) }
-    requires small { (length a.now ≤ 32) × (length b.now ≤ 32) × (length c.now ≤ 32) × (length d.now ≤ 32) }
-    ensures { R.Receiver.reception.took out.old (map (behind guard) ((opposite x ∷ a.now) ∷ (opposite x ∷ b.now) ∷ (x ∷ c.now) ∷ (x ∷ d.now) ∷ [])) out.new }
+    requires room { R.Receiver.reception.fits out.old (map (behind guard) ((first ∷ a.now) ∷ (first ∷ b.now) ∷ [])) }
+    requires small { (length a.now ≤ 32) × (length b.now ≤ 32) }
+    ensures { R.Receiver.reception.took out.old (map (behind guard) ((first ∷ a.now) ∷ (first ∷ b.now) ∷ [])) out.new }
 {
-    let y = x.opposite();
-    put_clause(out, guard, y, a);
-    put_clause(out, guard, y, b);
-    put_clause(out, guard, x, c);
-    put_clause(out, guard, x, d);
+    put_clause(out, guard, first, a);
+    put_clause(out, guard, first, b);
 }
 
+// `hold` is `upto` of the opposites, but for the order of the clauses, which is turned too.
 fn write_upto<R: Receiver>(
     out: &mut R,
     guard: Option<Literal>,
@@ -105,12 +105,11 @@ fn write_upto<R: Receiver>(
     requires { R.Receiver.reception.fits out.old (map (behind guard) (upto x b a y)) }
     ensures { R.Receiver.reception.took out.old (map (behind guard) (upto x b a y)) out.new }
 {
-    write_four(
+    put_two(out, guard, x.opposite(), &[b, a], &[b, y]);
+    put_two(
         out,
         guard,
         x,
-        &[b, a],
-        &[b, y],
         &[b.opposite()],
         &[a.opposite(), y.opposite()],
     );
@@ -127,15 +126,9 @@ fn write_hold<R: Receiver>(
     requires { R.Receiver.reception.fits out.old (map (behind guard) (hold x b a y)) }
     ensures { R.Receiver.reception.took out.old (map (behind guard) (hold x b a y)) out.new }
 {
-    write_four(
-        out,
-        guard,
-        x,
-        &[b],
-        &[a, y],
-        &[b.opposite(), a.opposite()],
-        &[b.opposite(), y.opposite()],
-    );
+    let c = b.opposite();
+    put_two(out, guard, x.opposite(), &[b], &[a, y]);
+    put_two(out, guard, x, &[c, a.opposite()], &[c, y.opposite()]);
 }
 
 // The clauses of a claim, which bind only where the guard is true.
@@ -150,13 +143,13 @@ pub fn write_claim<R: Receiver>(out: &mut R, guard: Option<Literal>, claim: Clai
         Claim::Either(x, a, b) => write_any(out, guard, x, &[a, b]),
         Claim::Upto(x, b, a, y) => write_upto(out, guard, x, b, a, y),
         Claim::Hold(x, b, a, y) => write_hold(out, guard, x, b, a, y),
-        Claim::Any(x, gs) => write_any(out, guard, x, gs.literals.as_slice()),
-        Claim::All(x, gs) => write_all(out, guard, x, gs.literals.as_slice()),
+        Claim::Any(x, gs) => write_any(out, guard, x, gs.as_slice()),
+        Claim::All(x, gs) => write_all(out, guard, x, gs.as_slice()),
     }
 }
 
 // The clauses of a part at the instants below n.
-pub fn write_part<R: Receiver>(out: &mut R, p: Place, guard: Guard, part: Part, n: u32)
+pub fn write_part<R: Receiver>(out: &mut R, p: Place, guard: Guard, part: Part, n: u8)
     requires room { R.Receiver.reception.fits out.old (each 0 n (clauses_at p guard part)) }
     requires small { n ≤ 32 }
     ensures { R.Receiver.reception.took out.old (each 0 n (clauses_at p guard part)) out.new }

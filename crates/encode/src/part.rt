@@ -1,22 +1,18 @@
 // The parts that clause lists are made of: a part has a few clauses for each instant.
-use super::buffer::Listed;
-use super::place::Instant;
+//
+// A part and its guard are data, and not closures from an instant to a claim: `write_part` names the list that it writes by
+// them. With closures it could say only that some list agrees with their answers, and each caller had to name that list again
+// in its proof.
+use super::instant::Instant;
+use bounded::Bounded;
 use cnf::clause::Literal;
 
-// How a row's value at one instant follows from its value, or its operand's, at another.
+// Data, as the parts with a link are: how a row's value at one instant follows from its value, or its operand's, at another.
 #[derive(Clone, Copy)]
 pub enum Link {
     Next,
     Until,
     Release,
-}
-
-// A run of literals: the loop starts, or the first operand's, from an instant on or back from it.
-#[derive(Clone, Copy)]
-pub enum Window {
-    Starts,
-    Ahead(Instant),
-    Back(Instant),
 }
 
 // What a row of the past depends on before the loop: its own values or its first operand's, how far back, and the value
@@ -58,8 +54,12 @@ pub enum Part {
     // the second operand, or its opposite, since the loop start
     Seen(bool),
     After(Instant),
-    Any(Window),
-    All(Window),
+    // some or every instant up to so many ahead
+    Within(Instant),
+    Throughout(Instant),
+    // some or every instant up to so many ago
+    Lately(Instant),
+    Steadily(Instant),
     // the first operand at an instant after the last one
     Beyond(Instant),
     // the first operand so long ago, or the value where there is no such instant
@@ -68,7 +68,7 @@ pub enum Part {
     Closed(Back, Instant),
 }
 
-// What a few clauses say of their literals.
+// What a few clauses say of their literals. A clause has room for thirty-two of a run, and two more.
 #[derive(Clone, Copy)]
 pub enum Claim {
     Unit(Literal),
@@ -77,6 +77,6 @@ pub enum Claim {
     Either(Literal, Literal, Literal),
     Upto(Literal, Literal, Literal, Literal),
     Hold(Literal, Literal, Literal, Literal),
-    Any(Literal, Listed),
-    All(Literal, Listed),
+    Any(Literal, Bounded<Literal, 32>),
+    All(Literal, Bounded<Literal, 32>),
 }

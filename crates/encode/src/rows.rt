@@ -1,4 +1,6 @@
 // The clauses of each kind of row.
+//
+// The receiver and the place are two parameters, for the reason that emit.rt gives.
 ghost use Rattle.std.specs.Prelude.{◌≡◌, suc, ◌+◌, ◌≤◌, [], ◌∷◌, ◌++◌};
 ghost use Rattle.cnf.specs.Clauses.{opposite};
 ghost use Rattle.mtl.specs.Shapes.{same, given, each, span};
@@ -8,9 +10,11 @@ ghost use Rattle.encode.specs.Parts.{lits_a, lits_b, lits_x, lits_e, linked, sub
 
 use super::Receiver;
 use super::emit::{put_clause, write_claim, write_part};
-use super::part::{Back, Claim, Guard, Link, Part, Window};
-use super::place::{Instant, Place};
-use super::step::{extra_at, given_as, in_block, inside_at, window};
+use super::instant::Instant;
+use super::part::{Back, Claim, Guard, Link, Part};
+use super::place::Place;
+use super::runs::starts_up_to;
+use mtl::layout::inside_at;
 use mtl::row::Row;
 
 // The clauses of a part at every instant, under a guard.
@@ -29,12 +33,12 @@ fn write_every<R: Receiver>(out: &mut R, p: Place, part: Part)
 }
 
 // The clause that the loop starts somewhere.
-pub fn write_starts<R: Receiver>(out: &mut R, p: Place)
-    requires { R.Receiver.reception.fits out.old (span starts 0 (suc p.k) ∷ []) }
-    ensures { R.Receiver.reception.took out.old (span starts 0 (suc p.k) ∷ []) out.new }
+pub fn write_starts<R: Receiver>(out: &mut R, k: u8)
+    requires room { R.Receiver.reception.fits out.old (span starts 0 (suc k) ∷ []) }
+    requires small { k ≤ 31 }
+    ensures { R.Receiver.reception.took out.old (span starts 0 (suc k) ∷ []) out.new }
 {
-    let clause = window(p, Window::Starts, 0).literals;
-    out.put(clause.as_slice());
+    out.put(starts_up_to(k).as_slice());
 }
 
 // A row whose value follows from the next instant's, with the loop start after the last one.
@@ -51,8 +55,8 @@ fn write_seen<R: Receiver>(out: &mut R, p: Place, v: bool)
     requires { R.Receiver.reception.fits out.old (seen p.k (lits_e p) (λ i. given v (lits_b p i))) }
     ensures { R.Receiver.reception.took out.old (seen p.k (lits_e p) (λ i. given v (lits_b p i))) out.new }
 {
-    let b = given_as(v, in_block(p.b, 0));
-    write_claim(out, None, Claim::Both(extra_at(p, 0), inside_at(p.k, 0), b));
+    let b = p.second(0).given(v);
+    write_claim(out, None, Claim::Both(p.extra(0), inside_at(p.k, 0), b));
     write_part(out, p, Guard::Always, Part::Seen(v), p.k);
 }
 
@@ -61,7 +65,7 @@ fn write_since<R: Receiver>(out: &mut R, p: Place, by: Link)
     requires { R.Receiver.reception.fits out.old (same (lits_x p 0) (lits_b p 0) ++ each 0 p.k (λ i. linked p by (suc i) i)) }
     ensures { R.Receiver.reception.took out.old (same (lits_x p 0) (lits_b p 0) ++ each 0 p.k (λ i. linked p by (suc i) i)) out.new }
 {
-    write_claim(out, None, Claim::Same(in_block(p.x, 0), in_block(p.b, 0)));
+    write_claim(out, None, Claim::Same(p.own(0), p.second(0)));
     write_part(out, p, Guard::Always, Part::Backward(by), p.k);
 }
 
@@ -91,8 +95,8 @@ fn write_until<R: Receiver>(out: &mut R, p: Place, by: Link, v: bool)
 {
     write_around(out, p, by);
     write_seen(out, p, v);
-    let last = given_as(v, in_block(p.x, p.k));
-    put_clause(out, None, last.opposite(), &[extra_at(p, p.k)]);
+    let last = p.own(p.k).given(v);
+    put_clause(out, None, last.opposite(), &[p.extra(p.k)]);
 }
 
 // How the past agrees with the loop, wherever it starts.
@@ -146,9 +150,7 @@ fn back(own: bool, reach: u8, before: bool) -> Option<Back>
 {
     Some(Back {
         own,
-        reach: Instant {
-            value: reach as u32,
-        },
+        reach: Instant { value: reach },
         before,
     })
 }
@@ -159,6 +161,8 @@ pub fn write_body<R: Receiver>(out: &mut R, p: Place, row: Row)
     requires reach { distance row ≤ 31 }
     ensures { R.Receiver.reception.took out.old (body p.k (lits_a p) (lits_b p) (lits_x p) (lits_e p) row) out.new }
 {
+    let one = Instant { value: 1 };
+    let t = reach_of(row);
     match row {
         Row::Signal(_) => {}
         Row::Not(_) => write_every(out, p, Part::Not),
@@ -167,32 +171,25 @@ pub fn write_body<R: Receiver>(out: &mut R, p: Place, row: Row)
         Row::Next(_) => write_around(out, p, Link::Next),
         Row::Until(_, _) => write_until(out, p, Link::Until, true),
         Row::Release(_, _) => write_until(out, p, Link::Release, false),
-        Row::After(_, t) => {
-            let t = Instant { value: t as u32 };
-            write_ahead(out, p, Part::After(t), t)
-        }
-        Row::Within(_, t) => {
-            let t = Instant { value: t as u32 };
-            write_ahead(out, p, Part::Any(Window::Ahead(t)), t)
-        }
-        Row::Throughout(_, t) => {
-            let t = Instant { value: t as u32 };
-            write_ahead(out, p, Part::All(Window::Ahead(t)), t)
-        }
-        Row::Previous(_) => write_every(out, p, Part::Delayed(Instant { value: 1 }, false)),
-        Row::WeakPrevious(_) => write_every(out, p, Part::Delayed(Instant { value: 1 }, true)),
+        Row::After(_, _) => write_ahead(out, p, Part::After(t), t),
+        Row::Within(_, _) => write_ahead(out, p, Part::Within(t), t),
+        Row::Throughout(_, _) => write_ahead(out, p, Part::Throughout(t), t),
+        Row::Previous(_) => write_every(out, p, Part::Delayed(one, false)),
+        Row::WeakPrevious(_) => write_every(out, p, Part::Delayed(one, true)),
         Row::Since(_, _) => write_since(out, p, Link::Until),
         Row::Trigger(_, _) => write_since(out, p, Link::Release),
-        Row::Ago(_, t) => write_every(out, p, Part::Delayed(Instant { value: t as u32 }, false)),
-        Row::Lately(_, t) => write_every(
-            out,
-            p,
-            Part::Any(Window::Back(Instant { value: t as u32 })),
-        ),
-        Row::Steadily(_, t) => write_every(
-            out,
-            p,
-            Part::All(Window::Back(Instant { value: t as u32 })),
-        ),
+        Row::Ago(_, _) => write_every(out, p, Part::Delayed(t, false)),
+        Row::Lately(_, _) => write_every(out, p, Part::Lately(t)),
+        Row::Steadily(_, _) => write_every(out, p, Part::Steadily(t)),
+    }
+}
+
+// A row's distance.
+fn reach_of(row: Row) -> Instant
+    requires { distance row ≤ 31 }
+    ensures { result.value ≡ distance row }
+{
+    Instant {
+        value: row.distance(),
     }
 }

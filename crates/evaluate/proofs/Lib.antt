@@ -1,3 +1,4 @@
+pub mod Ranges
 pub mod Rounds
 pub mod Duals
 pub mod Lifts

@@ -2,5 +2,7 @@
 #![tactic(auto)]
 
 pub mod instants;
+pub mod lasso;
 pub mod lines;
 pub mod rows;
+pub mod run;

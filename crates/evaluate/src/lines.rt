@@ -1,32 +1,46 @@
-// Letters, and the lines of a work area: one for each row, a byte for each instant from 0 to k.
-ghost use Rattle.std.specs.Prelude.{◌≡◌, ℕ, ◌+◌, ◌*◌, ◌<◌, ◌≤◌, length, ◌≢◌};
-ghost use Rattle.evaluate.specs.Letters.{holds};
+// The lines of a work area.
+ghost use Rattle.std.specs.Prelude.{◌≡◌, ◌+◌, ◌*◌, ◌<◌, ◌≤◌, length};
 ghost use Rattle.evaluate.specs.Lines.{line};
 ghost use Rattle.evaluate.specs.Truths.{cell};
+ghost use Rattle.mtl.specs.Runs.{lasso as place};
 
-// Whether signal a is in the letter.
-pub fn holds(letter: u32, a: u8) -> bool
-    requires { a ≤ 31 }
-    ensures { result ≡ holds letter a }
-{
-    letter >> a & 1 == 1
+use crate::lasso::Lasso;
+
+// One line for each of the first `count` rows of a table, and in it a byte for each instant, 1 where the row is true.
+#[derive(Debug, Clone, Copy)]
+pub struct Lines<'a> {
+    pub bytes: &'a [u8],
+    pub lasso: Lasso,
+    pub count: usize,
+    pub ghost few: { count ≤ 32 },
+    pub ghost room: { count * (lasso.bound + 1) ≤ length bytes.now },
 }
 
-// Line m of a work area that has n lines.
-pub fn line_of(work: &[u8], k: usize, n: usize, m: u8) -> &[u8]
-    requires { (k < 32) × ((n ≤ 32) × ((n * (k + 1) ≤ length work.now) × (m < n))) }
-    ensures value { result.now ≡ line k work.now m }
-    ensures len { length result.now ≡ k + 1 }
-{
-    let from = m as usize * (k + 1);
-    &work[from..from + (k + 1)]
-}
+impl<'a> Lines<'a> {
+    // Line m.
+    pub fn of(&self, m: u8) -> &'a [u8]
+        requires { m < self.now.count }
+        ensures value { result.now ≡ line self.now.lasso.bound self.now.bytes.now m }
+        ensures len { length result.now ≡ self.now.lasso.bound + 1 }
+    {
+        let instants = self.lasso.instants();
+        let from = m as usize * instants;
+        &self.bytes[from..from + instants]
+    }
 
-// Writes v at instant i of line n.
-pub(crate) fn put(work: &mut [u8], k: usize, n: usize, i: usize, v: bool)
-    requires { (k < 32) × ((n < 32) × (((n + 1) * (k + 1) ≤ length work.old) × (i ≤ k))) }
-    ensures here { cell k work.new n i ≡ v }
-    ensures others { (m j : ℕ) → j ≤ k → (m ≡ n → j ≢ i) → cell k work.new m j ≡ cell k work.old m j }
-{
-    work[n * (k + 1) + i] = if v { 1 } else { 0 };
+    // Whether row m is true at instant i.
+    pub fn bit(&self, m: u8, i: usize) -> bool
+        requires { (m < self.now.count) × (i ≤ self.now.lasso.bound) }
+        ensures { result ≡ cell self.now.lasso.bound self.now.bytes.now m i }
+    {
+        self.of(m)[i] == 1
+    }
+
+    // Whether row m is true at instant i of the endless run.
+    pub fn round(&self, m: u8, i: usize) -> bool
+        requires { m < self.now.count }
+        ensures { result ≡ cell self.now.lasso.bound self.now.bytes.now m (place self.now.lasso.bound self.now.lasso.start i) }
+    {
+        self.bit(m, self.lasso.place(i))
+    }
 }

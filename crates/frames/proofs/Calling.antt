@@ -4,13 +4,13 @@ use Rattle.std.proofs.lemmas.Bool.{eqb-true, eq-eqb}
 use Rattle.cnf.specs.Questions.{first_no}
 use Rattle.frames.specs.declared.refusals.Refusal.{Refusal}
 use Rattle.frames.specs.declared.refusals.Refusal.TheVariants.{Kind, Length}
-use Rattle.frames.specs.declared.scripts.Call.{Call}
-use Rattle.frames.specs.declared.scripts.Call.TheVariants.{Begin, Define, Require}
+use Rattle.calls.specs.declared.Call.{Call}
+use Rattle.calls.specs.declared.Call.TheVariants.{Begin, Define, Require}
 use Rattle.frames.specs.Layouts.{Layout, Lawful, begin_layout, define_layout, require_layout}
 use Rattle.frames.specs.Lines.{framed, mapped, kind_asks, reading}
 use Rattle.frames.specs.Script.{in_script, by_kind, call_asks, call_in, calling, written_call}
 use Rattle.frames.specs.Written.{written}
-use Rattle.frames.proofs.Framing.{after, after-bytes, asked_framed, asked_refused}
+use Rattle.frames.proofs.Framing.{after, after-bytes}
 use Rattle.frames.specs.Lawfulness.{begin_lawful, define_lawful, require_lawful}
 use Rattle.frames.proofs.Sealing.{read_as, back_at}
 
@@ -73,10 +73,7 @@ module _ {R : Type 0} (k : Layout R) (call : R → Call) (s : Scripted k call) w
       at (Ok bs) h = pick bs (eqb (get_or bs 0 0) k.code) refl h h
       at (Err d) h = let z : ◌≡◌ {A = ℕ} 0 1 = cc in absurd (omega arith)
 
-  -- the line that is written for a record is its call's, and is read as the call
-  pub wrote : (line : List ℕ) (x : R) (c : Call) → c ≡ call x → line ≡ written k x → line ≡ written_call c
-  wrote line x c e w = w ∙ sym (s.line x) ∙ ap written_call (sym e)
-
+  -- the line that is written for a record is read as its call
   pub back : (line : List ℕ) (x : R) (c : Call) → c ≡ call x → reading k line ≡ Ok x → calling line ≡ Ok c
   back line x c e r = call_read line x r ∙ ap Ok (sym e)
 
@@ -101,7 +98,6 @@ back_bytes line bs f = pick (eqb (get_or bs 0 0) begin_layout.code) (eqb (get_or
         let n : in_script (get_or bs 0 0) ≡ false = ap (λ b. b || (eqb (get_or bs 0 0) define_layout.code || eqb (get_or bs 0 0) require_layout.code)) p ∙ ap (λ b. b || eqb (get_or bs 0 0) require_layout.code) q ∙ r in
         subst (λ b. IfOk (cond b (cond (eqb (length bs) (size_at (get_or bs 0 0))) (Ok (call_in bs)) (Err Length)) (Err Kind)) (λ c. written_call c ≡ line)) (sym n) tt
 
--- what is called is written as the same line
 call_back : (line : List ℕ) → IfOk (calling line) (λ c. written_call c ≡ line)
 call_back line = subst (λ r. IfOk r (λ c. written_call c ≡ line)) (sym (after-bytes call_asks call_in line)) (at (framed line) refl)
   where
@@ -109,12 +105,6 @@ call_back line = subst (λ r. IfOk r (λ c. written_call c ≡ line)) (sym (afte
     at (Ok bs) f = back_bytes line bs f
     at (Err e) f = tt
 
--- what is called is the answer of all four questions, and is written as the same line
-pub call_framed : (line bs : List ℕ) (r : Result Call Refusal) → r ≡ called bs → Ok bs ≡ framed line → r ≡ calling line
-call_framed line bs r e f = e ∙ asked_framed call_asks call_in line bs f
-
-pub call_refused : (line : List ℕ) (d : Refusal) (r : Result Call Refusal) → r ≡ Err d → Err d ≡ framed line → r ≡ calling line
-call_refused line d r e f = e ∙ asked_refused call_asks call_in line d f
-
+-- what is called is written as the same line
 pub call_made : (line : List ℕ) (r : Result Call Refusal) → r ≡ calling line → IfOk r (λ c. written_call c ≡ line)
 call_made line r e = subst (λ q. IfOk q (λ c. written_call c ≡ line)) (sym e) (call_back line)

@@ -1,6 +1,6 @@
 -- Laws of the bytes of a line, and of the first two questions.
-use Rattle.std.proofs.Common.{◌≡◌, ℕ, ◌+◌, ◌*◌, ◌/◌, ◌%◌, ◌<◌, ◌≤◌, Bool, true, false, cond, ◌&&◌, eqb, leb, List, [], ◌∷◌, ◌++◌, length, get_or, take, drop, is_some, Some, None, Ok, Err, sum, Option, Result, sym, refl, ap, ◌∙◌, append_assoc, arith}
-use Rattle.std.proofs.lemmas.List.{drop_more, drop_all, append-nil}
+use Rattle.std.proofs.Common.{◌≡◌, ℕ, ◌+◌, ◌*◌, ◌%◌, ◌<◌, ◌≤◌, Bool, true, false, cond, ◌&&◌, eqb, leb, List, [], ◌∷◌, ◌++◌, length, get_or, is_some, Some, None, Ok, Err, sum, Option, Result, sym, refl, ap, ◌∙◌, append_assoc, arith}
+use Rattle.std.proofs.lemmas.List.{append-nil}
 use Rattle.std.proofs.lemmas.Bool.{and_left, and_right, and_from, and_parts, cond-true, cond-false, eq-eqb, eqb-true, leb-true}
 use Rattle.cnf.specs.Questions.{Question, first_no}
 use Rattle.frames.specs.declared.refusals.Refusal.{Refusal}
@@ -22,13 +22,11 @@ prepend_front xs b None = refl
 prepend_front xs b (Some ys) = ap Some (sym (append_assoc xs (b ∷ []) ys))
 
 -- the next two characters
-pub bytes_step : (cs : List ℕ) (i : ℕ) → 2 * i + 1 < length cs → bytes (drop (2 * i) cs) ≡ front (byte (get_or cs (2 * i) 0) (get_or cs (2 * i + 1) 0)) (bytes (drop (2 * (i + 1)) cs))
-bytes_step cs i h =
-    let p : 2 * i < length cs = omega arith in
-    let e : drop (2 * i) cs ≡ get_or cs (2 * i) 0 ∷ drop (2 * i + 1) cs = drop_more cs (2 * i) 0 p in
-    let f : drop (2 * i + 1) cs ≡ get_or cs (2 * i + 1) 0 ∷ drop (2 * i + 1 + 1) cs = drop_more cs (2 * i + 1) 0 h in
-    let n : 2 * i + 1 + 1 ≡ 2 * (i + 1) = omega arith in
-    ap bytes (e ∙ ap (λ l. get_or cs (2 * i) 0 ∷ l) (f ∙ ap (λ k. get_or cs (2 * i + 1) 0 ∷ drop k cs) n))
+pub bytes_step : (cs pair rest : List ℕ) → cs ≡ pair ++ rest → length pair ≡ 2 → bytes cs ≡ front (byte (get_or pair 0 0) (get_or pair 1 0)) (bytes rest)
+bytes_step cs [] rest e n = absurd (omega arith)
+bytes_step cs (h ∷ []) rest e n = absurd (omega arith)
+bytes_step cs (h ∷ l ∷ []) rest e n = ap bytes e
+bytes_step cs (h ∷ l ∷ k ∷ ks) rest e n = absurd (omega arith)
 
 two_more : (o p : Option ℕ) (q : Option (List ℕ)) (v d : Bool) → (v && d) ≡ is_some q → (v && (is_some o && (is_some p && d))) ≡ is_some (front (join o p) q)
 two_more (Some h) (Some l) None v d e = e
@@ -59,11 +57,10 @@ digits-bytes line e =
     ap (λ b. b && all_digits line) (sym even) ∙ even_digits line
 
 -- all of the characters, two for each byte
-pub all-bytes : (line xs : List ℕ) (i : ℕ) → frame_length (length line) ≡ true → i ≡ length line / 2 → bytes line ≡ prepend (take i xs) (bytes (drop (2 * i) line)) → bytes line ≡ Some (take (length line / 2) xs)
-all-bytes line xs i l h e =
-    let within = length-within (length line) l in
-    let end : length line ≤ 2 * i = omega (arith, within.2) in
-    e ∙ ap (λ cs. prepend (take i xs) (bytes cs)) (drop_all (2 * i) line end) ∙ ap Some (append-nil (take i xs)) ∙ ap (λ k. Some (take k xs)) h
+pub all-bytes : (line xs rest : List ℕ) → frame_length (length line) ≡ true → 2 * length xs + length rest ≡ length line → length rest < 2 → bytes line ≡ prepend xs (bytes rest) → bytes line ≡ Some xs
+all-bytes line xs [] l h k e = e ∙ ap Some (append-nil xs)
+all-bytes line xs (c ∷ []) l h k e = let within = length-within (length line) l in absurd (omega (arith, within.2, h))
+all-bytes line xs (c ∷ d ∷ cs) l h k e = absurd (omega (arith, k))
 
 -- question 1 is answered by no
 refused : (line : List ℕ) → (frame_length (length line) && all_digits line) ≡ false → Err Digits ≡ framed line

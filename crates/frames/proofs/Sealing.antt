@@ -11,7 +11,7 @@ use Rattle.frames.specs.Layouts.{Layout, Lawful}
 use Rattle.frames.specs.Lawfulness.{byte_at}
 use Rattle.frames.specs.Lines.{frame_length, framed, kind_asks, reading}
 use Rattle.frames.specs.Written.{spelled, sealed, check, written}
-use Rattle.frames.proofs.Framing.{framed-closed, framed_ok, after, after-bytes, asked_framed, asked_refused}
+use Rattle.frames.proofs.Framing.{framed-closed, framed_ok, after, after-bytes}
 use Rattle.frames.proofs.Spelling.{bytes-spelled, spelled-bytes}
 
 -- a byte more
@@ -92,12 +92,6 @@ module _ {R : Type 0} (k : Layout R) (law : Lawful k) where
       at (Ok bs) f = back_at line bs f
       at (Err e) f = tt
 
-  -- what is read is the answer of all four questions, and is written as the same line
-  pub read-framed : (line bs : List ℕ) (r : Result R Refusal) → r ≡ read_as k bs → Ok bs ≡ framed line → r ≡ reading k line
-  read-framed line bs r e f = e ∙ asked_framed (kind_asks k) k.fields line bs f
-
-  pub read_refused : (line : List ℕ) (d : Refusal) (r : Result R Refusal) → r ≡ Err d → Err d ≡ framed line → r ≡ reading k line
-  read_refused line d r e f = e ∙ asked_refused (kind_asks k) k.fields line d f
-
+  -- what is read is written as the same line
   pub read_back : (line : List ℕ) (r : Result R Refusal) → r ≡ reading k line → IfOk r (λ x. written k x ≡ line)
   read_back line r e = subst (λ q. IfOk q (λ x. written k x ≡ line)) (sym e) (read_write line)

@@ -1,8 +1,8 @@
 -- Laws of digits and of the line of some bytes.
-use Rattle.std.specs.Prelude.{◌≡◌, ℕ, zero, suc, ◌+◌, ◌*◌, ◌/◌, ◌%◌, ◌<◌, Bool, true, false, ◌&&◌, List, [], ◌∷◌, ◌++◌, length, take, Some, None, Option, ◌==◌, slice_index, slice_set, refl}
-use Rattle.std.proofs.Common.{sym, ap, ◌∙◌, subst, append_assoc, arith}
+use Rattle.std.specs.Prelude.{◌≡◌, ℕ, zero, suc, ◌+◌, ◌*◌, ◌/◌, ◌%◌, ◌<◌, Bool, true, false, ◌&&◌, List, [], ◌∷◌, ◌++◌, length, take, Some, None, Option, ◌==◌, slice_index, refl}
+use Rattle.std.proofs.Common.{sym, ap, ◌∙◌, subst, arith}
 use Rattle.std.proofs.Math.Path.{subst⁻¹}
-use Rattle.std.proofs.lemmas.List.{take_more, take_more_set, length-set}
+use Rattle.std.proofs.lemmas.List.{take_more}
 use Rattle.std.proofs.lemmas.Bool.{eqb-true, and_parts, cond-true, cond-false}
 use Rattle.frames.specs.Hex.{byte, bytes, Bytes, digit, digits, worth, place, join, front}
 use Rattle.frames.specs.Written.{spelled}
@@ -111,12 +111,3 @@ spelled-append (x ∷ xs) ys = ap (λ l. digit (x / 16) ∷ digit (x % 16) ∷ l
 
 pub spelled_push : (xs : List ℕ) (i : ℕ) → i < length xs → spelled (take (i + 1) xs) ≡ spelled (take i xs) ++ digit (slice_index xs i / 16) ∷ digit (slice_index xs i % 16) ∷ []
 spelled_push xs i h = ap spelled (take_more xs i 0 h) ∙ spelled-append (take i xs) (slice_index xs i ∷ [])
-
--- two characters more
-pub take_two : (t : List ℕ) (i a b : ℕ) → 2 * i + 1 < length t → take (2 * (i + 1)) (slice_set (slice_set t (2 * i) a) (2 * i + 1) b) ≡ take (2 * i) t ++ a ∷ b ∷ []
-take_two t i a b h =
-    let n : 2 * (i + 1) ≡ 2 * i + 1 + 1 = omega arith in
-    let p : 2 * i < length t = omega arith in
-    let l : 2 * i + 1 < length (slice_set t (2 * i) a) = simp length-set h in
-    ap (λ k. take k (slice_set (slice_set t (2 * i) a) (2 * i + 1) b)) n ∙ take_more_set (slice_set t (2 * i) a) (2 * i + 1) b l
-    ∙ ap (λ x. x ++ b ∷ []) (take_more_set t (2 * i) a p) ∙ append_assoc (take (2 * i) t) (a ∷ []) (b ∷ [])

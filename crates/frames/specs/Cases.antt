@@ -1,7 +1,7 @@
 -- Some lines and their answers.
 use Rattle.std.specs.Prelude.{◌≡◌, Ok, Err, codes}
 use Rattle.frames.specs.declared.refusals.Refusal.TheVariants.{Digits, Sum, Kind, Length}
-use Rattle.frames.specs.declared.scripts.Call.TheVariants.{Begin}
+use Rattle.calls.specs.declared.Call.TheVariants.{Begin}
 use Rattle.frames.specs.Layouts.{run_layout, letter_layout}
 use Rattle.frames.specs.Numbers.{number}
 use Rattle.frames.specs.Script.{calling}

@@ -1,8 +1,8 @@
 -- The kinds of frames: where each record lies in the bytes.
 use Rattle.std.specs.Prelude.{◌≡◌, ℕ, ◌+◌, ◌-◌, ◌*◌, ◌/◌, ◌%◌, ◌^◌, ◌<◌, ◌≤◌, cond, List, [], ◌∷◌, ◌++◌, length, Some, None, Option, ◌==◌, slice_index}
-use Rattle.frames.specs.declared.records.Begin.{Begin}
-use Rattle.frames.specs.declared.records.Define.{Define}
-use Rattle.frames.specs.declared.records.Require.{Require}
+use Rattle.calls.specs.declared.records.Begin.{Begin}
+use Rattle.calls.specs.declared.records.Define.{Define}
+use Rattle.calls.specs.declared.records.Require.{Require}
 use Rattle.frames.specs.declared.records.Run.{Run}
 use Rattle.frames.specs.declared.records.Letter.{Letter}
 use Rattle.frames.specs.Hex.{Bytes}

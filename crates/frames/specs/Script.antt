@@ -4,8 +4,8 @@ use Rattle.cnf.specs.Questions.{Question, ask, first_no}
 use Rattle.text.specs.Split.{lines}
 use Rattle.frames.specs.declared.refusals.Refusal.{Refusal}
 use Rattle.frames.specs.declared.refusals.Refusal.TheVariants.{Kind, Length}
-use Rattle.frames.specs.declared.scripts.Call.{Call}
-use Rattle.frames.specs.declared.scripts.Call.TheVariants.{Begin, Define, Require}
+use Rattle.calls.specs.declared.Call.{Call}
+use Rattle.calls.specs.declared.Call.TheVariants.{Begin, Define, Require}
 use Rattle.frames.specs.Hex.{decoded}
 use Rattle.frames.specs.Layouts.{begin_layout, define_layout, require_layout}
 use Rattle.frames.specs.Lines.{line_asks}

@@ -46,8 +46,5 @@ pub fn digit_of(n: u8) -> u8
 pub fn byte_of(high: u8, low: u8) -> Option<u8>
     ensures { result ≡ byte high low }
 {
-    match (value_of(high), value_of(low)) {
-        (Some(h), Some(l)) => Some(16 * h + l),
-        _ => None,
-    }
+    Some(16 * value_of(high)? + value_of(low)?)
 }

@@ -14,13 +14,10 @@ use crate::refusals::Refusal;
 pub(crate) fn record_of<K: Kind>(frame: &Frame) -> Result<K::Record, Refusal>
     ensures { result ≡ first_no (kind_asks K.Kind.layout (held frame.now)) (K.Kind.layout.fields (held frame.now)) }
 {
-    if frame.kind() != K::code_byte() {
+    if frame.kind() != K::CODE {
         return Err(Refusal::Kind);
     }
-    match K::take_apart(frame.as_slice()) {
-        Some(record) => Ok(record),
-        None => Err(Refusal::Length),
-    }
+    K::take_apart(frame.as_slice()).ok_or(Refusal::Length)
 }
 
 // The record of a line that has a frame of the kind K. Written, it is the same line.

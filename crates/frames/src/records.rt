@@ -1,27 +1,5 @@
-// What the frames say: a record for each kind.
-
-// The bound of the rules that follow.
-#[derive(Clone, Copy, PartialEq, Eq, Debug)]
-pub struct Begin {
-    pub bound: u8,
-}
-
-// A row: an operator's code and its fields.
-#[derive(Clone, Copy, PartialEq, Eq, Debug)]
-pub struct Define {
-    pub code: u8,
-    pub a: u8,
-    pub b: u8,
-    pub t: u8,
-}
-
-// The value that a row is to have at an instant.
-#[derive(Clone, Copy, PartialEq, Eq, Debug)]
-pub struct Require {
-    pub row: u8,
-    pub instant: u8,
-    pub value: u8,
-}
+// What the frames say: a record for each kind, those of the calls from their crate.
+pub use calls::records::{Begin, Define, Require};
 
 // A run's bound and the instant that its loop goes back to.
 #[derive(Clone, Copy, PartialEq, Eq, Debug)]

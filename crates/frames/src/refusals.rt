@@ -5,13 +5,13 @@ ghost use Rattle.frames.specs.Numbers.{number};
 #[derive(Clone, Copy, PartialEq, Eq, Debug)]
 pub enum Refusal {
     // the line is not an even number, 6 to 14, of digits 0 to 9 and A to F
-    Digits,
+    Digits = 1,
     // the sum of the bytes is no multiple of 256
-    Sum,
+    Sum = 2,
     // the kind is not one that is read here
-    Kind,
+    Kind = 3,
     // the number of bytes is not the kind's
-    Length,
+    Length = 4,
 }
 
 impl Refusal {
@@ -19,11 +19,6 @@ impl Refusal {
     pub fn number(self) -> u8
         ensures { result ≡ number self }
     {
-        match self {
-            Refusal::Digits => 1,
-            Refusal::Sum => 2,
-            Refusal::Kind => 3,
-            Refusal::Length => 4,
-        }
+        self as u8
     }
 }

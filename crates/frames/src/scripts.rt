@@ -8,18 +8,11 @@ use crate::buffer::Frame;
 use crate::decoding::decode;
 use crate::kinds::{BeginKind, DefineKind, Kind, RequireKind};
 use crate::reading::record_of;
-use crate::records::{Begin, Define, Require};
 use crate::refusals::Refusal;
 use crate::rows::Line;
 use crate::writing::write;
+pub use calls::Call;
 use text::splitting::split_line;
-
-#[derive(Clone, Copy, PartialEq, Eq, Debug)]
-pub enum Call {
-    Begin(Begin),
-    Define(Define),
-    Require(Require),
-}
 
 // The call in a frame of a script.
 fn call_in(frame: &Frame) -> Result<Call, Refusal>
@@ -58,8 +51,6 @@ pub fn write_call(call: Call) -> Line
 pub fn next_call(script: &[u8]) -> Option<(Result<Call, Refusal>, &[u8])>
     ensures { MatchOption result (script.now ≡ []) (λ p. (answers script.now ≡ p.0 ∷ answers p.1.now) × (length p.1.now < length script.now)) }
 {
-    match split_line(script) {
-        Some((line, rest)) => Some((call_of(line), rest)),
-        None => None,
-    }
+    let (line, rest) = split_line(script)?;
+    Some((call_of(line), rest))
 }

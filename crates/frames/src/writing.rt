@@ -9,20 +9,19 @@ use crate::encoding::encode;
 use crate::kinds::Kind;
 use crate::rows::Line;
 use crate::sums::check_of;
+use bounded::Bounded;
 
 // The frame of a record, closed by its check byte.
 pub(crate) fn seal<K: Kind>(x: K::Record) -> Frame
     ensures small { K.Kind.layout.small x }
     ensures value { held result ≡ sealed (K.Kind.layout.code ∷ K.Kind.layout.laid x) }
 {
-    let last = K::byte_count() - 1;
-    let mut bytes = K::lay(x);
-    let check = check_of(&bytes[0..last]);
-    bytes[last] = check;
-    Frame {
-        bytes,
-        count: last + 1,
-    }
+    let laid = K::lay(x);
+    let open = &laid[..K::LENGTH - 1];
+    let mut bytes = Bounded::new(0);
+    bytes.extend(open);
+    bytes.push(check_of(open));
+    Frame { bytes }
 }
 
 // The line of a record. Read, it is the same record.

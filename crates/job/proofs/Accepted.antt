@@ -10,7 +10,9 @@ use Rattle.mtl.specs.Rows.{distance}
 use Rattle.mtl.specs.Fields.{rows_with}
 use Rattle.mtl.specs.Tables.{is_new, fits_after}
 use Rattle.job.specs.declared.refusal.Refusal.{Refusal}
-use Rattle.job.specs.declared.call.Call.{Call}
+use Rattle.calls.specs.declared.Call.{Call}
+use Rattle.calls.specs.declared.records.Define.{Define}
+use Rattle.calls.specs.declared.records.Require.{Require}
 use Rattle.job.specs.declared.job.Job.{Job}
 use Rattle.job.specs.Calls.{State, Answer, asks, list, after, reply_of, row_with, low_signal, new_signal, define_asks, require_asks, sink_asks, highest}
 use Rattle.job.specs.Steps.{known, Step, Finishing}
@@ -38,9 +40,9 @@ get_or_all P [] i d h p = p
 get_or_all P (x ∷ xs) zero d h p = h.0
 get_or_all P (x ∷ xs) (suc i) d h p = get_or_all P xs i d h.1 p
 
-pub distance_with : (code a b t : ℕ) → distance (row_with code a b t) ≤ t
-distance_with code a b t =
-    get_or_all (λ r. distance r ≤ t) (rows_with a b t) (code - 1) (Signal 0)
+pub distance_with : (d : Define) → distance (row_with d) ≤ d.t
+distance_with d =
+    get_or_all (λ r. distance r ≤ d.t) (rows_with d.a d.b d.t) (d.code - 1) (Signal 0)
     (omega arith, (omega arith, (omega arith, (omega arith, (omega arith, (omega arith, (omega arith, (omega arith, (omega arith, (omega arith, (omega arith, (omega arith, (omega arith, (omega arith, (omega arith, (omega arith, (omega arith, tt)))))))))))))))))
     (omega arith)
 
@@ -50,25 +52,25 @@ pub record FreshRow (s : State) (r : Row) : Type 0 where
   pub room : length s.rows < 32
   pub fit : fits_after s.rows r ≡ true
 
-pub define_yes : (s : State) (code a b t : ℕ) → Yes (define_asks s code a b t) → FreshRow s (row_with code a b t)
-define_yes s code a b t (begun, (room, (coded, (unused, (there, (new, (near, _))))))) =
+pub define_yes : (s : State) (d : Define) → Yes (define_asks s d) → FreshRow s (row_with d)
+define_yes s d (begun, (room, (coded, (unused, (there, (new, (near, _))))))) =
     let both = and_parts _ _ there in
-    let far = distance_with code a b t in
+    let far = distance_with d in
     record {
       begun = begun;
       room = ltb-true _ _ room;
-      fit = and_from _ _ (and_from _ _ both.0 (le-leb (distance (row_with code a b t)) 31 (omega (arith, leb-true t 31 near)))) (is_new_from s.rows _ both.1 new);
+      fit = and_from _ _ (and_from _ _ both.0 (le-leb (distance (row_with d)) 31 (omega (arith, leb-true d.t 31 near)))) (is_new_from s.rows _ both.1 new);
     }
 
 -- a requirement that may be kept
-pub record FreshRequirement (s : State) (row instant : ℕ) : Type 0 where
+pub record FreshRequirement (s : State) (q : Require) : Type 0 where
   pub begun : s.begun ≡ true
-  pub there : row < length s.rows
-  pub inside : instant ≤ s.bound
+  pub there : q.row < length s.rows
+  pub inside : q.instant ≤ s.bound
   pub room : length s.kept < 64
 
-pub require_yes : (s : State) (row instant v : ℕ) → Yes (require_asks s row instant v) → FreshRequirement s row instant
-require_yes s row instant v (begun, (there, (inside, (value, (room, _))))) =
+pub require_yes : (s : State) (q : Require) → Yes (require_asks s q) → FreshRequirement s q
+require_yes s q (begun, (there, (inside, (value, (room, _))))) =
     record { begun = begun; there = ltb-true _ _ there; inside = leb-true _ _ inside; room = ltb-true _ _ room }
 
 -- a call whose own questions are answered yes, and one with a no among them

@@ -1,7 +1,6 @@
 -- What a chain of clauses does to a writer and to a judge.
-use Rattle.std.proofs.Common.{◌≡◌, ℕ, ◌+◌, Bool, true, false, cond, eqb, ◌↔◌, List, [], ◌∷◌, length, take, sym, refl, ap, ◌∙◌, subst, arith, length-append}
+use Rattle.std.proofs.Common.{◌≡◌, ℕ, ◌+◌, Bool, true, false, cond, ◌↔◌, List, [], ◌∷◌, length, take, Some, None, Option, is_none, unwrap_or, sym, refl, ap, ◌∙◌, subst, arith, length-append}
 use Rattle.std.proofs.lemmas.Bool.{eq-eqb, eqb-true, and_from}
-use Rattle.std.proofs.lemmas.Bool.Decides.{nat_tests}
 use Rattle.std.specs.List.{flat_map}
 use Rattle.cnf.specs.Clauses.{Assignment, Clauses, negated, sat, sat_all, in_range, all_in_range}
 use Rattle.cnf.specs.Sinks.{Model}
@@ -14,7 +13,7 @@ use Rattle.sinks.specs.Models.{writer_model, judge_model, NewWriter, NewJudge, a
 use Rattle.sinks.proofs.Over.{over_none, over_next, take-over}
 use Rattle.sinks.proofs.Reading.{read-lines}
 use Rattle.mtl.proofs.Witness.{satisfiable}
-use Rattle.job.specs.declared.call.Call.{Call}
+use Rattle.calls.specs.declared.Call.{Call}
 use Rattle.job.specs.declared.call.Exchange.{Exchange}
 use Rattle.job.specs.declared.bottom.Written.{Written}
 use Rattle.job.specs.Calls.{State, Answer, fresh, highest}
@@ -67,27 +66,26 @@ chain_switch m v (c ∷ cs) s t w (u, (first, same), rest) =
     let P : ℕ → Type 0 = λ n. m.takes s.below (negated n ∷ c) u.below in
     (u.below, subst P w first, chain_switch m v cs u t (same ∙ w) rest)
 
-fault_step : (f n : ℕ) (b : Bool) (r : ℕ) → cond (eqb (first_fault f (n + 1) b) 0) r (first_fault f (n + 1) b) ≡ cond (eqb f 0) (cond b r (n + 1)) f
-fault_step f n true r = grind (arith, nat_tests)
-fault_step f n false r = grind (arith, nat_tests)
+fault_step : (f : Option ℕ) (n : ℕ) (b : Bool) (r : ℕ) → unwrap_or (first_fault f n b) r ≡ unwrap_or f (cond b r n)
+fault_step None n true r = refl
+fault_step None n false r = refl
+fault_step (Some m) n b r = refl
 
-chain_fault : (cs : Clauses) (j k : Judge) → Chain judge_model.takes cs j k → k.fault ≡ cond (eqb j.fault 0) (first_false (assigned j.area.now) j.taken cs) j.fault
-chain_fault [] j k e = ap (λ x. x.fault) e ∙ grind (arith, nat_tests)
+chain_fault : (cs : Clauses) (j k : Judge) → Chain judge_model.takes cs j k → unwrap_or k.fault 0 ≡ unwrap_or j.fault (first_false (assigned j.area.now) j.taken cs)
+chain_fault [] j k e = ap (λ x. unwrap_or x.fault 0) e
 chain_fault (c ∷ cs) j k (u, first, rest) =
-    let α = assigned j.area.now in
-    let later = chain_fault cs u k rest in
     let f = first.fault ∙ ap (λ n. first_fault j.fault n (sat (assigned j.area.now) c)) first.taken in
-    later
-    ∙ ap (λ a. cond (eqb u.fault 0) (first_false (assigned a) u.taken cs) u.fault) first.same_area
-    ∙ ap (λ n. cond (eqb u.fault 0) (first_false (assigned j.area.now) n cs) u.fault) first.taken
-    ∙ ap (λ v. cond (eqb v 0) (first_false (assigned j.area.now) (j.taken + 1) cs) v) f
-    ∙ fault_step j.fault j.taken (sat (assigned j.area.now) c) (first_false (assigned j.area.now) (j.taken + 1) cs)
+    chain_fault cs u k rest
+    ∙ ap (λ a. unwrap_or u.fault (first_false (assigned a) u.taken cs)) first.same_area
+    ∙ ap (λ n. unwrap_or u.fault (first_false (assigned j.area.now) n cs)) first.taken
+    ∙ ap (λ v. unwrap_or v (first_false (assigned j.area.now) (j.taken + 1) cs)) f
+    ∙ fault_step j.fault (j.taken + 1) (sat (assigned j.area.now) c) (first_false (assigned j.area.now) (j.taken + 1) cs)
 
 -- from a judge by the area that has taken no clause
-pub judged_first : (cs : Clauses) (area : List ℕ) (j k : Judge) → NewJudge area j → Chain judge_model.takes cs j k → k.fault ≡ first_false (assigned area) 0 cs
+pub judged_first : (cs : Clauses) (area : List ℕ) (j k : Judge) → NewJudge area j → Chain judge_model.takes cs j k → unwrap_or k.fault 0 ≡ first_false (assigned area) 0 cs
 judged_first cs area j k new h =
     chain_fault cs j k h
-    ∙ ap (λ x. cond (eqb x 0) (first_false (assigned j.area.now) j.taken cs) x) new.no_fault
+    ∙ ap (λ x. unwrap_or x (first_false (assigned j.area.now) j.taken cs)) new.no_fault
     ∙ ap (λ n. first_false (assigned j.area.now) n cs) new.no_clause
     ∙ ap (λ s. first_false (assigned s) 0 cs) new.bytes
 
@@ -148,13 +146,13 @@ module _ (f g : ℕ) (before : List ℕ) (xs ys : List Exchange) (w v : Writer) 
       }
 
 -- the judge: its assignment is in while it tells 0
-pub judged_rules : (area : List ℕ) (xs ys : List Exchange) (j k : Judge) (z : State) (r : ℕ) → NewJudge area j → Drove judge_model j xs ys k z → r ≡ k.fault → JudgedRules area xs ys r
+pub judged_rules : (area : List ℕ) (xs ys : List Exchange) (j k : Judge) (z : State) (r : ℕ) → NewJudge area j → Drove judge_model j xs ys k z → r ≡ unwrap_or k.fault 0 → JudgedRules area xs ys r
 judged_rules area xs ys j k z r new d told =
     let p = d.promise in
     let α = assigned area in
     let watched : judge_model.watched j (assigned area) = λ v _ _. ap (λ s. assigned s v) (sym new.bytes) in
     let is = p.inside (assigned area) watched in
-    let in_first : judge_model.inside j (assigned area) ≡ true = ap (λ n. eqb n 0) new.no_fault in
+    let in_first : judge_model.inside j (assigned area) ≡ true = ap is_none new.no_fault in
     record {
       answers = d.answers;
       told = d.told;
@@ -165,7 +163,7 @@ judged_rules area xs ys j k z r new d told =
       promise = p;
       first = told ∙ judged_first (written fresh (calls_of xs) d.answers) area j k new p.taken.steps;
       exact = λ b. (
-        λ e. (is.0 (eq-eqb k.fault 0 (sym told ∙ e))).1 b,
-        λ shown. told ∙ eqb-true k.fault 0 (is.1 (in_first, λ _. shown)),
+        λ e. (is.0 (k.numbered ∙ eq-eqb _ 0 (sym told ∙ e))).1 b,
+        λ shown. told ∙ eqb-true _ 0 (sym k.numbered ∙ is.1 (in_first, λ _. shown)),
       );
     }

@@ -3,7 +3,7 @@ use Rattle.std.proofs.Common.{◌≡◌, ℕ, suc, ◌+◌, ◌<◌, ◌≤◌, 
 use lib.ListN.{length-map}
 use Rattle.std.proofs.lemmas.List.{drop_more, take_more, get_or_at, set_at, map_push, length_push, length-take-le, take_all, drop_all, append-nil}
 use Rattle.cnf.specs.Sinks.{Model}
-use Rattle.job.specs.declared.call.Call.{Call}
+use Rattle.calls.specs.declared.Call.{Call}
 use Rattle.job.specs.declared.call.Exchange.{Exchange}
 use Rattle.job.specs.declared.job.Job.{Job}
 use Rattle.job.specs.Calls.{State, Answer, fresh, list, after}

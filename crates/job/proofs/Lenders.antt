@@ -1,10 +1,10 @@
 -- A list of calls over a sink that is seen through a function of its value.
-use Rattle.std.proofs.Common.{◌≡◌, ℕ, List, sym, ◌∙◌, subst, MutBor}
+use Rattle.std.proofs.Common.{◌≡◌, List, sym, ◌∙◌, subst, MutBor}
 use Rattle.cnf.specs.Clauses.{Clause}
 use Rattle.cnf.specs.Sinks.{Model}
 use Rattle.cnf.specs.Layers.{lent_model, switch_model}
 use Rattle.cnf.specs.declared.switch.Switch.{Switch}
-use Rattle.job.specs.declared.call.Call.{Call}
+use Rattle.calls.specs.declared.Call.{Call}
 use Rattle.job.specs.declared.call.Exchange.{Exchange}
 use Rattle.job.specs.Calls.{State, Answer, answer_to}
 use Rattle.job.specs.Runs.{Ran, none, more}
@@ -45,9 +45,11 @@ switched_drove m s t xs ys z d after tie =
     (subst (λ n. Drove (switch_model m) (below_by (λ x. x.now) s) xs ys (record { below = t.below.now; variable = n }) z) var (drove_view (switch_view (lent_view m)) s t xs ys z d))
 
 -- the same where it stands below two switches
-pub piled_drove : {S : Type 0} (m : Model S) (n : ℕ) (s t : Switch (MutBor S)) (xs ys : List Exchange) (z : State) → Drove (switch_model (switch_model (lent_model m))) (record { below = s; variable = n }) xs ys (record { below = t; variable = n }) z → (after : S) → (s.below.ghost_name ≡ t.below.ghost_name → after ≡ t.below.now) → Drove (switch_model (switch_model m)) (record { below = record { below = s.below.now; variable = s.variable }; variable = n }) xs ys (record { below = record { below = after; variable = s.variable }; variable = n }) z
-piled_drove m n s t xs ys z d after tie =
-    let same = drove_keeps (switch_model (switch_model (lent_model m))) (λ u. u.below.below.ghost_name) (λ _ _ _ h. h.0.0.1) _ _ xs ys z d in
-    let var = drove_keeps (switch_model (switch_model (lent_model m))) (λ u. u.below.variable) (λ _ _ _ h. h.0.1) _ _ xs ys z d in
-    subst (λ u. Drove (switch_model (switch_model m)) (record { below = below_by (λ x. x.now) s; variable = n }) xs ys (record { below = record { below = u; variable = s.variable }; variable = n }) z) (sym (tie (sym same)))
-    (subst (λ v. Drove (switch_model (switch_model m)) (record { below = below_by (λ x. x.now) s; variable = n }) xs ys (record { below = record { below = t.below.now; variable = v }; variable = n }) z) var (drove_view (switch_view (switch_view (lent_view m))) _ _ xs ys z d))
+pub piled_drove : {S : Type 0} (m : Model S) (s t : Switch (Switch (MutBor S))) (xs ys : List Exchange) (z : State) → Drove (switch_model (switch_model (lent_model m))) s xs ys t z → (after : S) → (s.below.below.ghost_name ≡ t.below.below.ghost_name → after ≡ t.below.below.now) → Drove (switch_model (switch_model m)) (record { below = record { below = s.below.below.now; variable = s.below.variable }; variable = s.variable }) xs ys (record { below = record { below = after; variable = s.below.variable }; variable = s.variable }) z
+piled_drove m s t xs ys z d after tie =
+    let same = drove_keeps (switch_model (switch_model (lent_model m))) (λ u. u.below.below.ghost_name) (λ _ _ _ h. h.0.0.1) s t xs ys z d in
+    let inner = drove_keeps (switch_model (switch_model (lent_model m))) (λ u. u.below.variable) (λ _ _ _ h. h.0.1) s t xs ys z d in
+    let outer = drove_keeps (switch_model (switch_model (lent_model m))) (λ u. u.variable) (λ _ _ _ h. h.1) s t xs ys z d in
+    subst (λ u. Drove (switch_model (switch_model m)) (below_by (below_by (λ x. x.now)) s) xs ys (record { below = record { below = u; variable = s.below.variable }; variable = s.variable }) z) (sym (tie (sym same)))
+    (subst (λ v. Drove (switch_model (switch_model m)) (below_by (below_by (λ x. x.now)) s) xs ys (record { below = record { below = t.below.below.now; variable = v }; variable = s.variable }) z) inner
+    (subst (λ v. Drove (switch_model (switch_model m)) (below_by (below_by (λ x. x.now)) s) xs ys (record { below = record { below = t.below.below.now; variable = t.below.variable }; variable = v }) z) outer (drove_view (switch_view (switch_view (lent_view m))) s t xs ys z d)))

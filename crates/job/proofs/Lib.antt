@@ -1,4 +1,5 @@
 pub mod Accepted
+pub mod Coded
 pub mod Driving
 pub mod Finishing
 pub mod Highest

@@ -9,7 +9,7 @@ use Rattle.mtl.specs.Tables.{fits_after}
 use Rattle.mtl.specs.Statements.{Takes}
 use Rattle.mtl.proofs.Ranged.{ranged}
 use Rattle.mtl.proofs.Tables.{top_least, fits}
-use Rattle.job.specs.declared.state.questions.Place.{Place}
+use Rattle.encode.specs.declared.place.Place.{Place}
 use Rattle.job.specs.Calls.{State, highest, define_list, require_list, with_bound, with_row}
 use Rattle.job.specs.States.{Placed}
 use Rattle.job.proofs.Highest.{highest_more}

@@ -13,8 +13,8 @@ use Rattle.mtl.specs.Tables.{lawful, Asked, requires, job}
 use Rattle.mtl.proofs.Exact.{exact}
 use Rattle.mtl.proofs.Grown.{grown}
 use Rattle.mtl.proofs.Tables.{lawful_push}
-use Rattle.job.specs.declared.call.Call.{Call}
-use Rattle.job.specs.declared.call.Call.TheVariants.{Begin, Define, Require}
+use Rattle.calls.specs.declared.Call.{Call}
+use Rattle.calls.specs.declared.Call.TheVariants.{Begin, Define, Require}
 use Rattle.job.specs.Calls.{State, Answer, fresh, asks, list, after, answer_to, questions, row_with, requirement, define_list, require_list, with_row}
 use Rattle.job.specs.Feeding.{TakenAll, taken_none, taken_join, sat_all-++}
 use Rattle.job.specs.Runs.{then_knows, handed, Ran, none, more, written, Shows, Promise}
@@ -54,28 +54,28 @@ true_not_false b t f = absurd (both_ways b f t)
 
 -- what a job knows after an accepted call
 pub good_after : (s : State) (c : Call) → Yes (asks s c) → Good s → Good (after s c)
-good_after s (Begin k) (idle, _) g =
+good_after s (Begin x) (idle, _) g =
     let off = not-true s.begun idle in
     record {
       lawful = g.lawful;
-      asked = subst (λ qs. Asked k (length s.rows) qs) (sym (g.no_requirements off)) tt;
+      asked = subst (λ qs. Asked x.bound (length s.rows) qs) (sym (g.no_requirements off)) tt;
       no_rows = λ f. true_not_false true refl f;
       no_requirements = λ f. true_not_false true refl f;
     }
-good_after s (Define code a b t) y g =
-    let new = define_yes s code a b t y in
-    let r = row_with code a b t in
+good_after s (Define d) y g =
+    let new = define_yes s d y in
+    let r = row_with d in
     record {
-      lawful = lawful_push s.rows (row_with code a b t) ∙ and_from (lawful s.rows) _ g.lawful new.fit;
-      asked = asked_more s.bound (length s.rows) _ s.kept (omega (arith, length_push s.rows (row_with code a b t))) g.asked;
+      lawful = lawful_push s.rows (row_with d) ∙ and_from (lawful s.rows) _ g.lawful new.fit;
+      asked = asked_more s.bound (length s.rows) _ s.kept (omega (arith, length_push s.rows (row_with d))) g.asked;
       no_rows = λ f. true_not_false s.begun new.begun f;
       no_requirements = λ f. true_not_false s.begun new.begun f;
     }
-good_after s (Require row instant v) y g =
-    let new = require_yes s row instant v y in
+good_after s (Require q) y g =
+    let new = require_yes s q y in
     record {
       lawful = g.lawful;
-      asked = asked_push s.bound (length s.rows) s.kept (requirement row instant v) g.asked new.there new.inside;
+      asked = asked_push s.bound (length s.rows) s.kept (requirement q) g.asked new.there new.inside;
       no_rows = λ f. true_not_false s.begun new.begun f;
       no_requirements = λ f. true_not_false s.begun new.begun f;
     }
@@ -122,35 +122,34 @@ not_begun_is s e = ap (λ b. cond b (job s.bound (reverse s.rows) s.kept) []) e
 
 -- the clauses of what a job knows after an accepted call say what they said, and what the call's say
 lists_after : (α : Assignment) (s : State) (c : Call) → Yes (asks s c) → Good s → sat_all α (lists (after s c)) ≡ (sat_all α (lists s) && sat_all α (list s c))
-lists_after α s (Begin k) (idle, _) g =
+lists_after α s (Begin x) (idle, _) g =
     let off = not-true s.begun idle in
-    ap (λ rs. sat_all α (job k (reverse rs) s.kept)) (g.no_rows off)
-    ∙ ap (λ qs. sat_all α (job k [] qs)) (g.no_requirements off)
-    ∙ sat-job α k [] []
+    ap (λ rs. sat_all α (job x.bound (reverse rs) s.kept)) (g.no_rows off)
+    ∙ ap (λ qs. sat_all α (job x.bound [] qs)) (g.no_requirements off)
+    ∙ sat-job α x.bound [] []
     ∙ and_true _ ∙ and_true _
-    ∙ sym (ap (λ cs. sat_all α cs && sat_all α (begin k)) (not_begun_is s off))
-lists_after α s (Define code a b t) y g =
-    let new = define_yes s code a b t y in
-    let r = row_with code a b t in
+    ∙ sym (ap (λ cs. sat_all α cs && sat_all α (begin x.bound)) (not_begun_is s off))
+lists_after α s (Define d) y g =
+    let new = define_yes s d y in
+    let r = row_with d in
     let k = s.bound in
-    ap (sat_all α) (begun_is (with_row s (row_with code a b t)) new.begun)
-    ∙ sat-job α s.bound (reverse (s.rows ++ (row_with code a b t ∷ []))) s.kept
-    ∙ ap (λ cs. (sat_all α (begin s.bound) && sat_all α cs) && sat_all α (requires s.bound (reverse (s.rows ++ (row_with code a b t ∷ []))) s.kept)) (grown.clauses_more s.bound s.rows (row_with code a b t))
-    ∙ ap (λ cs. (sat_all α (begin s.bound) && sat_all α (clauses s.bound (reverse s.rows) ++ define_list s (row_with code a b t))) && sat_all α cs) (requires_stay s.bound s.rows (row_with code a b t) s.kept g.asked)
-    ∙ ap (λ x. (sat_all α (begin s.bound) && x) && sat_all α (requires s.bound (reverse s.rows) s.kept)) (sat_all-++ α (clauses s.bound (reverse s.rows)) (define_list s (row_with code a b t)))
-    ∙ and_last (sat_all α (begin s.bound)) (sat_all α (clauses s.bound (reverse s.rows))) (sat_all α (requires s.bound (reverse s.rows) s.kept)) (sat_all α (define_list s (row_with code a b t)))
-    ∙ ap (λ x. x && sat_all α (define_list s (row_with code a b t))) (sym (ap (sat_all α) (begun_is s new.begun) ∙ sat-job α s.bound (reverse s.rows) s.kept))
-lists_after α s (Require row instant v) y g =
-    let new = require_yes s row instant v y in
-    let q = requirement row instant v in
+    ap (sat_all α) (begun_is (with_row s (row_with d)) new.begun)
+    ∙ sat-job α s.bound (reverse (s.rows ++ (row_with d ∷ []))) s.kept
+    ∙ ap (λ cs. (sat_all α (begin s.bound) && sat_all α cs) && sat_all α (requires s.bound (reverse (s.rows ++ (row_with d ∷ []))) s.kept)) (grown.clauses_more s.bound s.rows (row_with d))
+    ∙ ap (λ cs. (sat_all α (begin s.bound) && sat_all α (clauses s.bound (reverse s.rows) ++ define_list s (row_with d))) && sat_all α cs) (requires_stay s.bound s.rows (row_with d) s.kept g.asked)
+    ∙ ap (λ x. (sat_all α (begin s.bound) && x) && sat_all α (requires s.bound (reverse s.rows) s.kept)) (sat_all-++ α (clauses s.bound (reverse s.rows)) (define_list s (row_with d)))
+    ∙ and_last (sat_all α (begin s.bound)) (sat_all α (clauses s.bound (reverse s.rows))) (sat_all α (requires s.bound (reverse s.rows) s.kept)) (sat_all α (define_list s (row_with d)))
+    ∙ ap (λ x. x && sat_all α (define_list s (row_with d))) (sym (ap (sat_all α) (begun_is s new.begun) ∙ sat-job α s.bound (reverse s.rows) s.kept))
+lists_after α s (Require q) y g =
+    let new = require_yes s q y in
     let k = s.bound in
     let rs = reverse s.rows in
-    ap (sat_all α) (ap (λ b. cond b (job s.bound (reverse s.rows) (s.kept ++ (requirement row instant v ∷ []))) []) new.begun)
-    ∙ sat_all-++ α (begin s.bound ++ clauses s.bound (reverse s.rows)) (requires s.bound (reverse s.rows) (s.kept ++ (requirement row instant v ∷ [])))
-    ∙ ap (λ cs. sat_all α (begin s.bound ++ clauses s.bound (reverse s.rows)) && sat_all α cs) (requires_push s.bound (reverse s.rows) s.kept (requirement row instant v))
-    ∙ ap (λ x. sat_all α (begin s.bound ++ clauses s.bound (reverse s.rows)) && x) (sat_all-++ α (requires s.bound (reverse s.rows) s.kept) (require_list s (requirement row instant v)))
-    ∙ sym (and_assoc (sat_all α (begin s.bound ++ clauses s.bound (reverse s.rows))) (sat_all α (requires s.bound (reverse s.rows) s.kept)) (sat_all α (require_list s (requirement row instant v))))
-    ∙ ap (λ x. x && sat_all α (require_list s (requirement row instant v))) (sym (ap (sat_all α) (begun_is s new.begun) ∙ sat_all-++ α (begin s.bound ++ clauses s.bound (reverse s.rows)) (requires s.bound (reverse s.rows) s.kept)))
+    ap (sat_all α) (ap (λ b. cond b (job s.bound (reverse s.rows) (s.kept ++ (requirement q ∷ []))) []) new.begun)
+    ∙ sat_all-++ α (begin s.bound ++ clauses s.bound (reverse s.rows)) (requires s.bound (reverse s.rows) (s.kept ++ (requirement q ∷ [])))
+    ∙ ap (λ cs. sat_all α (begin s.bound ++ clauses s.bound (reverse s.rows)) && sat_all α cs) (requires_push s.bound (reverse s.rows) s.kept (requirement q))
+    ∙ ap (λ x. sat_all α (begin s.bound ++ clauses s.bound (reverse s.rows)) && x) (sat_all-++ α (requires s.bound (reverse s.rows) s.kept) (require_list s (requirement q)))
+    ∙ sym (and_assoc (sat_all α (begin s.bound ++ clauses s.bound (reverse s.rows))) (sat_all α (requires s.bound (reverse s.rows) s.kept)) (sat_all α (require_list s (requirement q))))
+    ∙ ap (λ x. x && sat_all α (require_list s (requirement q))) (sym (ap (sat_all α) (begun_is s new.begun) ∙ sat_all-++ α (begin s.bound ++ clauses s.bound (reverse s.rows)) (requires s.bound (reverse s.rows) s.kept)))
 
 -- one call, and a list of calls
 module _ {S : Type 0} (m : Model S) where

@@ -17,8 +17,10 @@ use Rattle.mtl.specs.Lists.{begin, top, value, added}
 use Rattle.mtl.specs.Tables.{all_below, has_signal}
 use Rattle.job.specs.declared.refusal.Refusal.{Refusal}
 use Rattle.job.specs.declared.refusal.Refusal.TheVariants.{Begun, Bound, Long, Variables, Cells, NotBegun, Full, Code, Unused, Operand, Signal, Distance, NoRow, Instant, Value, Requirements}
-use Rattle.job.specs.declared.call.Call.{Call}
-use Rattle.job.specs.declared.call.Call.TheVariants.{Begin, Define, Require}
+use Rattle.calls.specs.declared.Call.{Call}
+use Rattle.calls.specs.declared.Call.TheVariants as call
+use Rattle.calls.specs.declared.records.Define.{Define}
+use Rattle.calls.specs.declared.records.Require.{Require}
 use Rattle.job.specs.declared.call.Reply.{Reply}
 use Rattle.job.specs.declared.call.Reply.TheVariants as reply
 
@@ -37,9 +39,9 @@ fresh = record { begun = false; bound = 0; rows = []; kept = [] }
 abbrev pub highest : State → ℕ
 highest s = cond s.begun (top s.bound (reverse s.rows) - 1) 0
 
--- the row and the operator of a code; which ones they are for a number that is no code does not matter
-abbrev pub row_with : ℕ → ℕ → ℕ → ℕ → Row
-row_with code a b t = slice_index_or (rows_with a b t) (code - 1) (SignalRow 0)
+-- the row of a definition and the operator of a code; which ones they are for a number that is no code does not matter
+abbrev pub row_with : Define → Row
+row_with d = slice_index_or (rows_with d.a d.b d.t) (d.code - 1) (SignalRow 0)
 
 abbrev pub operator_at : ℕ → Operator
 operator_at code = slice_index_or operators (code - 1) (operator 0 0 false Nothing Free)
@@ -62,30 +64,30 @@ new_signal rs (Some a) = not (has_signal a rs)
 abbrev pub begin_asks : State → ℕ → List (Question Refusal)
 begin_asks s k = ask (not s.begun) Begun ∷ ask (nat_le k 31) Bound ∷ []
 
-abbrev pub define_asks : State → ℕ → ℕ → ℕ → ℕ → List (Question Refusal)
-define_asks s code a b t =
+abbrev pub define_asks : State → Define → List (Question Refusal)
+define_asks s d =
     ask s.begun NotBegun
     ∷ ask (nat_lt (length s.rows) 32) Full
-    ∷ ask (is_code code) Code
-    ∷ ask (unused_zero (operator_at code) b t) Unused
-    ∷ ask (all_below (length s.rows) (operands (row_with code a b t)) && low_signal (signal_of (row_with code a b t))) Operand
-    ∷ ask (new_signal s.rows (signal_of (row_with code a b t))) Signal
-    ∷ ask (nat_le t 31) Distance
+    ∷ ask (is_code d.code) Code
+    ∷ ask (unused_zero (operator_at d.code) d.b d.t) Unused
+    ∷ ask (all_below (length s.rows) (operands (row_with d)) && low_signal (signal_of (row_with d))) Operand
+    ∷ ask (new_signal s.rows (signal_of (row_with d))) Signal
+    ∷ ask (nat_le d.t 31) Distance
     ∷ []
 
-abbrev pub require_asks : State → ℕ → ℕ → ℕ → List (Question Refusal)
-require_asks s row instant v =
+abbrev pub require_asks : State → Require → List (Question Refusal)
+require_asks s q =
     ask s.begun NotBegun
-    ∷ ask (nat_lt row (length s.rows)) NoRow
-    ∷ ask (nat_le instant s.bound) Instant
-    ∷ ask (nat_le v 1) Value
+    ∷ ask (nat_lt q.row (length s.rows)) NoRow
+    ∷ ask (nat_le q.instant s.bound) Instant
+    ∷ ask (nat_le q.value 1) Value
     ∷ ask (nat_lt (length s.kept) 64) Requirements
     ∷ []
 
 abbrev pub asks : State → Call → List (Question Refusal)
-asks s (Begin k) = begin_asks s k
-asks s (Define code a b t) = define_asks s code a b t
-asks s (Require row instant v) = require_asks s row instant v
+asks s (call.Begin x) = begin_asks s x.bound
+asks s (call.Define d) = define_asks s d
+asks s (call.Require q) = require_asks s q
 
 -- the clauses that an accepted call hands down, in order
 abbrev pub define_list : State → Row → Clauses
@@ -94,13 +96,13 @@ define_list s r = added s.bound (reverse s.rows) r
 abbrev pub require_list : State → Requirement → Clauses
 require_list s q = unit (given q.value (value s.bound (reverse s.rows) q.row q.instant))
 
-abbrev pub requirement : ℕ → ℕ → ℕ → Requirement
-requirement row instant v = record { row = row; instant = instant; value = (v == 1) }
+abbrev pub requirement : Require → Requirement
+requirement q = record { row = q.row; instant = q.instant; value = (q.value == 1) }
 
 abbrev pub list : State → Call → Clauses
-list s (Begin k) = begin k
-list s (Define code a b t) = define_list s (row_with code a b t)
-list s (Require row instant v) = require_list s (requirement row instant v)
+list s (call.Begin x) = begin x.bound
+list s (call.Define d) = define_list s (row_with d)
+list s (call.Require q) = require_list s (requirement q)
 
 -- what the job knows after an accepted call
 abbrev pub with_bound : State → ℕ → State
@@ -113,15 +115,15 @@ abbrev pub with_requirement : State → Requirement → State
 with_requirement s q = record { begun = s.begun; bound = s.bound; rows = s.rows; kept = s.kept ++ (q ∷ []) }
 
 abbrev pub after : State → Call → State
-after s (Begin k) = with_bound s k
-after s (Define code a b t) = with_row s (row_with code a b t)
-after s (Require row instant v) = with_requirement s (requirement row instant v)
+after s (call.Begin x) = with_bound s x.bound
+after s (call.Define d) = with_row s (row_with d)
+after s (call.Require q) = with_requirement s (requirement q)
 
 -- what an accepted call answers
 abbrev pub reply_of : State → Call → Reply
-reply_of s (Begin k) = reply.Done
-reply_of s (Define code a b t) = reply.Row (length s.rows)
-reply_of s (Require row instant v) = reply.Done
+reply_of s (call.Begin x) = reply.Done
+reply_of s (call.Define d) = reply.Row (length s.rows)
+reply_of s (call.Require q) = reply.Done
 
 -- the last questions, put to the sink: of the list cs of a job whose highest variable comes to v
 abbrev pub limits : ℕ → ℕ → ℕ → ℕ → ℕ → ℕ → List (Question Refusal)

@@ -4,7 +4,7 @@ use Rattle.cnf.specs.Clauses.{Assignment, Clauses}
 use Rattle.cnf.specs.Sinks.{Model}
 use Rattle.mtl.specs.Runs.{Run}
 use Rattle.mtl.specs.Statements.{Obeys, BelongsTo}
-use Rattle.job.specs.declared.call.Call.{Call}
+use Rattle.calls.specs.declared.Call.{Call}
 use Rattle.job.specs.Calls.{State, Answer, fresh, list, after, answer_to}
 use Rattle.job.specs.Feeding.{TakenAll}
 

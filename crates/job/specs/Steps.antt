@@ -7,7 +7,7 @@ use Rattle.mtl.specs.declared.row.Row.{Row}
 use Rattle.mtl.specs.declared.requirement.Requirement.{Requirement}
 use Rattle.mtl.specs.Lists.{begin}
 use Rattle.job.specs.declared.refusal.Refusal.{Refusal}
-use Rattle.job.specs.declared.call.Call.{Call}
+use Rattle.calls.specs.declared.Call.{Call}
 use Rattle.job.specs.declared.call.Reply.{Reply}
 use Rattle.job.specs.declared.call.Reply.TheVariants as reply
 use Rattle.job.specs.declared.job.Job.{Job}

@@ -8,7 +8,7 @@ use sinks::judge::Judge;
 use sinks::writer::Writer;
 
 // What was written: the bytes of the lines, their number, and the job's highest variable.
-#[derive(Clone, Copy)]
+#[derive(Clone, Copy, Debug, PartialEq, Eq)]
 pub struct Written {
     pub bytes: usize,
     pub clauses: usize,
@@ -37,7 +37,7 @@ pub fn write_piled(area: &mut [u8], first: u32, second: u32, exchanges: &mut [Ex
     writer.text().len()
 }
 
-// Judges the clauses of the accepted calls by the area: the number of the first false one, or 0.
+// Judges the clauses of the accepted calls by the area: the number of the first false one, or 0, as a judge tells it.
 pub fn judge_rules(area: &[u8], exchanges: &mut [Exchange]) -> usize
     ensures { JudgedRules area.now exchanges.old exchanges.new result }
 {

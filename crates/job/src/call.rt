@@ -1,18 +1,11 @@
-// The calls of a job as values.
-use crate::refusal::Refusal;
+// A call of a job and its answer.
+ghost use Rattle.std.specs.Prelude.{◌≡◌, None};
 
-#[derive(Clone, Copy)]
-pub enum Call {
-    // the bound
-    Begin(u8),
-    // an operator's code and the fields a, b and t
-    Define(u8, u8, u8, u8),
-    // a row, an instant and a value
-    Require(u8, u8, u8),
-}
+use crate::refusal::Refusal;
+pub use calls::Call;
 
 // What an accepted call answers.
-#[derive(Clone, Copy)]
+#[derive(Clone, Copy, Debug, PartialEq, Eq)]
 pub enum Reply {
     Done,
     // the number of the row that was defined
@@ -20,8 +13,17 @@ pub enum Reply {
 }
 
 // A call and the place of its answer.
-#[derive(Clone, Copy)]
+#[derive(Clone, Copy, Debug, PartialEq, Eq)]
 pub struct Exchange {
     pub call: Call,
     pub answer: Option<Result<Reply, Refusal>>,
+}
+
+// A call that has no answer yet.
+impl From<Call> for Exchange {
+    ghost from_gives = { λ call exchange. exchange ≡ record { call = call; answer = None } };
+
+    fn from(call: Call) -> Exchange {
+        Exchange { call, answer: None }
+    }
 }

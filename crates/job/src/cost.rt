@@ -1,4 +1,5 @@
-// What a list of clauses asks of a sink: the length of its longest clause, and its cells.
+// What a list of clauses asks of a sink: the length of its longest clause, and its cells. The highest variable is the job's, not
+// the list's.
 ghost use Rattle.std.specs.Prelude.{List, reverse};
 ghost use Rattle.cnf.specs.declared.clause.Literal.{Literal};
 ghost use Rattle.mtl.specs.declared.row.Row.{Row};

@@ -33,21 +33,20 @@ pub fn drive<S: Sink>(sink: S, exchanges: &mut [Exchange]) -> Job<S>
 pub fn drive_lent<S: Sink>(sink: &mut S, exchanges: &mut [Exchange]) -> Setup
     ensures { Drove S.Sink.model sink.old exchanges.old exchanges.new sink.new (state_of result) }
 {
-    let mut job = Job::new(sink);
-    perform_all(&mut job, exchanges);
-    let Job { sink: _, setup } = job;
-    setup
+    let job = drive(sink, exchanges);
+    *job.setup()
 }
 
 // The same through a switch over that sink.
 pub fn drive_switched<S: Sink>(sink: &mut S, variable: u32, exchanges: &mut [Exchange]) -> Setup
     ensures { Drove (switch_model S.Sink.model) (record { below = sink.old; variable = variable }) exchanges.old exchanges.new (record { below = sink.new; variable = variable }) (state_of result) }
 {
-    let mut switch = Switch {
+    let switch = Switch {
         below: sink,
         variable,
     };
-    drive_lent(&mut switch, exchanges)
+    let job = drive(switch, exchanges);
+    *job.setup()
 }
 
 // The same through a switch over a switch over that sink.
@@ -59,9 +58,14 @@ pub fn drive_piled<S: Sink>(
 ) -> Setup
     ensures { Drove (switch_model (switch_model S.Sink.model)) (record { below = record { below = sink.old; variable = first }; variable = second }) exchanges.old exchanges.new (record { below = record { below = sink.new; variable = first }; variable = second }) (state_of result) }
 {
-    let mut switch = Switch {
+    let switch = Switch {
         below: sink,
         variable: first,
     };
-    drive_switched(&mut switch, second, exchanges)
+    let piled = Switch {
+        below: switch,
+        variable: second,
+    };
+    let job = drive(piled, exchanges);
+    *job.setup()
 }

@@ -1,15 +1,14 @@
 // Hands a call's list to a sink, clause by clause and in order.
-ghost use Rattle.std.specs.Prelude.{suc, ◌+◌, ◌<◌, ◌≤◌};
+ghost use Rattle.std.specs.Prelude.{suc, ◌+◌, ◌≤◌};
 ghost use Rattle.mtl.specs.Rows.{distance};
 ghost use Rattle.mtl.specs.Shapes.{unit};
 ghost use Rattle.mtl.specs.Lists.{begin, block, row_clauses};
 ghost use Rattle.job.specs.Feeding.{Fits, TakenAll};
 
 use crate::feed::Feed;
-use crate::state::questions::Place;
 use cnf::clause::Literal;
 use cnf::sink::Sink;
-use encode::{write_begin, write_row, write_unit};
+use encode::{Place, write_begin, write_row, write_unit};
 use mtl::row::Row;
 
 pub(crate) fn hand_begin<S: Sink>(sink: &mut S, k: u8)
@@ -23,12 +22,11 @@ pub(crate) fn hand_begin<S: Sink>(sink: &mut S, k: u8)
 
 pub(crate) fn hand_row<S: Sink>(sink: &mut S, place: Place, row: Row)
     requires room { Fits S.Sink.model (row_clauses place.k (block place.a) (block place.b) (block place.x) (block (place.x + suc place.k)) row) sink.old }
-    requires small { (place.k ≤ 31) × (place.a < 65536) × (place.b < 65536) × (place.x < 65536) }
     requires near { distance row ≤ 31 }
     ensures { TakenAll S.Sink.model (row_clauses place.k (block place.a) (block place.b) (block place.x) (block (place.x + suc place.k)) row) sink.old sink.new }
 {
     let mut feed = Feed { sink };
-    write_row(&mut feed, place.k, place.a, place.b, place.x, row);
+    write_row(&mut feed, place, row);
 }
 
 pub(crate) fn hand_unit<S: Sink>(sink: &mut S, literal: Literal)

@@ -14,6 +14,7 @@ use crate::cost::Cost;
 use crate::handing::{hand_begin, hand_row, hand_unit};
 use crate::refusal::Refusal;
 use crate::state::Setup;
+use calls::records::{Define, Require};
 use cnf::sink::Sink;
 use mtl::requirement::Requirement;
 use mtl::row::Row;
@@ -86,9 +87,7 @@ impl<S: Sink> Job<S> {
         ensures { Beginning S.Sink.model self.old k result self.new }
     {
         let cost = Cost::of_begin(k);
-        if let Err(refusal) = ask_limits(&self.sink, cost, self.setup.highest_at(k)) {
-            return Err(refusal);
-        }
+        ask_limits(&self.sink, cost, self.setup.highest_at(k))?;
         hand_begin(&mut self.sink, k);
         self.setup.open(k);
         Ok(Reply::Done)
@@ -104,9 +103,7 @@ impl<S: Sink> Job<S> {
         let number = self.setup.rows();
         let place = self.setup.place(row);
         let cost = self.setup.cost_of(row);
-        if let Err(refusal) = ask_limits(&self.sink, cost, place.highest) {
-            return Err(refusal);
-        }
+        ask_limits(&self.sink, cost, self.setup.highest_with(row))?;
         hand_row(&mut self.sink, place, row);
         self.setup.add(row);
         Ok(Reply::Row(number))
@@ -122,9 +119,7 @@ impl<S: Sink> Job<S> {
     {
         let literal = self.setup.literal(requirement);
         let cost = Cost::of_unit();
-        if let Err(refusal) = ask_limits(&self.sink, cost, self.setup.highest()) {
-            return Err(refusal);
-        }
+        ask_limits(&self.sink, cost, self.setup.highest())?;
         hand_unit(&mut self.sink, literal);
         self.setup.keep(requirement);
         Ok(Reply::Done)
@@ -132,41 +127,39 @@ impl<S: Sink> Job<S> {
 
     // Begins the job with a bound.
     pub fn begin(&mut self, k: u8) -> Result<Reply, Refusal>
-        ensures { Step S.Sink.model self.old (Call.Begin k) result self.new }
+        ensures { Step S.Sink.model self.old (Call.Begin (record { bound = k })) result self.new }
     {
-        match self.setup.ask_begin(k) {
-            Err(refusal) => Err(refusal),
-            Ok(()) => self.start(k),
-        }
+        self.setup.ask_begin(k)?;
+        self.start(k)
     }
 
-    // Adds a row, and answers its number.
+    // Adds a row, and answers its number. A caller has the four bytes; `perform` takes the record.
     pub fn define(&mut self, code: u8, a: u8, b: u8, t: u8) -> Result<Reply, Refusal>
-        ensures { Step S.Sink.model self.old (Call.Define code a b t) result self.new }
+        ensures { Step S.Sink.model self.old (Call.Define (record { code = code; a = a; b = b; t = t })) result self.new }
     {
-        match self.setup.ask_define(code, a, b, t) {
-            Err(refusal) => Err(refusal),
-            Ok(row) => self.add_row(row),
-        }
+        let row = self.setup.ask_define(Define { code, a, b, t })?;
+        self.add_row(row)
     }
 
     // Requires that a row has a value at an instant.
     pub fn require(&mut self, row: u8, instant: u8, value: u8) -> Result<Reply, Refusal>
-        ensures { Step S.Sink.model self.old (Call.Require row instant value) result self.new }
+        ensures { Step S.Sink.model self.old (Call.Require (record { row = row; instant = instant; value = value })) result self.new }
     {
-        match self.setup.ask_require(row, instant, value) {
-            Err(refusal) => Err(refusal),
-            Ok(requirement) => self.keep(requirement),
-        }
+        let requirement = self.setup.ask_require(Require {
+            row,
+            instant,
+            value,
+        })?;
+        self.keep(requirement)
     }
 
     pub fn perform(&mut self, call: Call) -> Result<Reply, Refusal>
         ensures { Step S.Sink.model self.old call result self.new }
     {
         match call {
-            Call::Begin(k) => self.begin(k),
-            Call::Define(code, a, b, t) => self.define(code, a, b, t),
-            Call::Require(row, instant, value) => self.require(row, instant, value),
+            Call::Begin(x) => self.begin(x.bound),
+            Call::Define(x) => self.define(x.code, x.a, x.b, x.t),
+            Call::Require(x) => self.require(x.row, x.instant, x.value),
         }
     }
 }

@@ -2,40 +2,40 @@
 ghost use Rattle.std.specs.Prelude.{◌≡◌};
 ghost use Rattle.job.specs.Refusals.{number};
 
-#[derive(Clone, Copy)]
+#[derive(Clone, Copy, Debug, PartialEq, Eq)]
 pub enum Refusal {
     // the job is begun already
-    Begun,
+    Begun = 10,
     // the bound is above 31
-    Bound,
+    Bound = 11,
     // the list has a longer clause than the sink takes
-    Long,
+    Long = 12,
     // the job's highest variable would lie above the sink's
-    Variables,
+    Variables = 13,
     // the list has more cells than are free
-    Cells,
+    Cells = 14,
     // the job is not begun
-    NotBegun,
+    NotBegun = 20,
     // there are 32 rows
-    Full,
+    Full = 21,
     // no operator has this code
-    Code,
+    Code = 22,
     // a field that the operator has no use for is not zero
-    Unused,
+    Unused = 23,
     // an operand is not an earlier row, or the signal is above 31
-    Operand,
+    Operand = 24,
     // the signal has a row
-    Signal,
+    Signal = 25,
     // the distance is above 31
-    Distance,
+    Distance = 26,
     // there is no such row
-    NoRow,
+    NoRow = 30,
     // the instant is after the bound
-    Instant,
+    Instant = 31,
     // the value is neither 0 nor 1
-    Value,
+    Value = 32,
     // there are 64 requirements
-    Requirements,
+    Requirements = 33,
 }
 
 impl Refusal {
@@ -43,23 +43,6 @@ impl Refusal {
     pub fn number(self) -> u32
         ensures { result ≡ number self }
     {
-        match self {
-            Refusal::Begun => 10,
-            Refusal::Bound => 11,
-            Refusal::Long => 12,
-            Refusal::Variables => 13,
-            Refusal::Cells => 14,
-            Refusal::NotBegun => 20,
-            Refusal::Full => 21,
-            Refusal::Code => 22,
-            Refusal::Unused => 23,
-            Refusal::Operand => 24,
-            Refusal::Signal => 25,
-            Refusal::Distance => 26,
-            Refusal::NoRow => 30,
-            Refusal::Instant => 31,
-            Refusal::Value => 32,
-            Refusal::Requirements => 33,
-        }
+        self as u32
     }
 }

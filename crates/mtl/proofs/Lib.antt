@@ -20,3 +20,4 @@ pub mod Witness
 pub mod Cases
 pub mod Places
 pub mod Grown
+pub mod Rows

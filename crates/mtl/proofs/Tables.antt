@@ -1,11 +1,15 @@
 -- What a lawful list of rows says of its rows, one by one.
-use Rattle.std.proofs.Common.{◌≡◌, ℕ, suc, ◌+◌, ◌*◌, ◌<◌, ◌≤◌, Bool, true, false, not, ◌&&◌, ◌||◌, eqb, ltb, leb, List, [], ◌∷◌, ◌++◌, reverse, length, Some, None, Option, sym, refl, ap, ◌∙◌, subst, ⊎_elim, append_assoc, append-nil, arith}
+use Rattle.std.proofs.Common.{◌≡◌, ℕ, suc, ◌+◌, ◌*◌, ◌<◌, ◌≤◌, Bool, true, false, not, ◌&&◌, ◌||◌, eqb, ltb, leb, cond, List, [], ◌∷◌, ◌++◌, reverse, length, Some, None, Option, sym, refl, ap, ◌∙◌, subst, ⊎_elim, append_assoc, append-nil, zero-add, arith}
 use Rattle.std.proofs.lemmas.Bool.{cases_order, eq-eqb, ne_eqb, and_parts, false≢true, ltb-true, leb-true, eqb-true, not-true}
+use Rattle.std.proofs.lemmas.Bool.Decides.{nat_tests, same_from_decides}
 use Rattle.std.proofs.lemmas.List.{reverse-append, reverse-reverse, length-reverse}
 use Rattle.mtl.specs.declared.row.Row.{Row}
+use Rattle.std.specs.Bool.{Decides}
+use Rattle.std.specs.List.{position, position_or_len}
+use Rattle.std.specs.Option.{is_some}
 use Rattle.mtl.specs.Rows.{operands, distance, signal_of}
 use Rattle.mtl.specs.Lists.{top}
-use Rattle.mtl.specs.Tables.{all_below, names, is_signal, has_signal, is_new, fits_after, lawful_after, lawful}
+use Rattle.mtl.specs.Tables.{all_below, names, is_signal, has_signal, row_of, is_new, fits_after, lawful_after, lawful}
 
 -- every number of the list is below n
 abbrev pub Below : ℕ → List ℕ → Type 0
@@ -97,3 +101,32 @@ newest P n m c here there =
 pub top_least : (k : ℕ) (rs : List Row) → 2 * k + 3 ≤ top k rs
 top_least k [] = omega arith
 top_least k (r ∷ rs) = let q = top_least k rs in omega arith
+
+found : (n : ℕ) (b : Bool) (i l : ℕ) (o : Option ℕ) → o ≡ cond (ltb i l) (Some (suc n + i)) None → cond b (Some n) o ≡ cond (ltb (cond (not b) (1 + i) 0) (suc l)) (Some (n + cond (not b) (1 + i) 0)) None
+found n true i l o e = grind (arith, nat_tests)
+found n false i l o e = grind (arith, nat_tests)
+
+row_from : (n a : ℕ) (rs : List Row) → row_of n a rs ≡ cond (ltb (position_or_len (is_signal a) rs) (length rs)) (Some (n + position_or_len (is_signal a) rs)) None
+row_from n a [] = refl
+row_from n a (r ∷ rs) = found n (is_signal a r) _ _ (row_of (suc n) a rs) (row_from (suc n) a rs)
+
+-- what a search finds is the signal's row
+pub row_found : (a : ℕ) (rs : List Row) (o : Option ℕ) → o ≡ position (is_signal a) rs → o ≡ row_of 0 a rs
+row_found a rs o e = e ∙ sym (simp zero-add at (row_from 0 a rs))
+
+names_decides : (a : ℕ) (o : Option ℕ) → Decides (names a o) (o ≡ Some a)
+names_decides a None = (λ e. absurd (false≢true e), λ e. cc)
+names_decides a (Some b) = (λ e. ap Some (sym (eqb-true a b e)), λ e. eq-eqb a b cc)
+
+-- a test whether an option is a's
+pub names_is : (a : ℕ) (o : Option ℕ) (b : Bool) → Decides b (o ≡ Some a) → b ≡ names a o
+names_is a o b d = same_from_decides b (names a o) d (names_decides a o)
+
+-- a signal has a row where the search finds one
+pub has_row : (n a : ℕ) (rs : List Row) → is_some (row_of n a rs) ≡ has_signal a rs
+has_row n a [] = refl
+has_row n a (r ∷ rs) = either (is_signal a r) (has_row (suc n) a rs)
+  where
+    either : (b : Bool) → is_some (row_of (suc n) a rs) ≡ has_signal a rs → is_some (cond b (Some n) (row_of (suc n) a rs)) ≡ (b || has_signal a rs)
+    either true e = refl
+    either false e = e

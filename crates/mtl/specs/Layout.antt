@@ -1,12 +1,13 @@
 -- The rows of a table, and how many variables they have.
-use Rattle.std.specs.Prelude.{ℕ, suc, ◌+◌, ◌*◌, max, List, [], ◌∷◌, reverse, take}
+use Rattle.std.specs.Prelude.{ℕ, suc, ◌+◌, ◌*◌, max, List, reverse, sum_by}
+use Rattle.bounded.specs.Items.{items}
 use Rattle.mtl.specs.declared.row.Row.{Row}
 use Rattle.mtl.specs.declared.table.Table.{Table}
 use Rattle.mtl.specs.Rows.{extra}
 
 -- the oldest row first
 abbrev pub rows_of : Table → List Row
-rows_of t = take t.len t.rows
+rows_of t = items t.rows
 
 -- the newest row first
 abbrev pub newest_of : Table → List Row
@@ -17,8 +18,7 @@ abbrev pub size : ℕ → Row → ℕ
 size k r = suc k + extra k r
 
 abbrev pub sizes : ℕ → List Row → ℕ
-sizes k [] = 0
-sizes k (r ∷ rs) = size k r + sizes k rs
+sizes k rs = sum_by (size k) rs
 
 -- no table has more variables than this for the bound k: 32 rows, whose distances are at most 31.
 -- For k up to 31 it is at most 2k + 2 + 32 * 64.

@@ -1,6 +1,7 @@
 -- The shapes that clause lists are made of.
-use Rattle.std.specs.Prelude.{ℕ, zero, suc, Bool, cond, List, [], ◌∷◌, ◌++◌, map}
+use Rattle.std.specs.Prelude.{ℕ, zero, suc, List, [], ◌∷◌, ◌++◌, map}
 use Rattle.cnf.specs.declared.clause.Literal.{Literal}
+pub use Rattle.cnf.specs.Clauses.{given}
 use Rattle.cnf.specs.Clauses.{Clauses, opposite}
 
 -- x is y
@@ -33,10 +34,7 @@ any x gs = (opposite x ∷ gs) ∷ map (λ g. x ∷ opposite g ∷ []) gs
 abbrev pub all : Literal → List Literal → Clauses
 all x gs = map (λ g. opposite x ∷ g ∷ []) gs ++ ((x ∷ map opposite gs) ∷ [])
 
--- the one clause p, or its opposite where v is false
-abbrev pub given : Bool → Literal → Literal
-given v p = cond v p (opposite p)
-
+-- the one clause p
 abbrev pub unit : Literal → Clauses
 unit p = (p ∷ []) ∷ []
 

@@ -1,5 +1,5 @@
 -- Which rows make a table, the requirements on one, and all the clauses of a job.
-use Rattle.std.specs.Prelude.{ℕ, ◌<◌, ◌≤◌, Bool, true, false, cond, not, ◌&&◌, ◌||◌, List, [], ◌∷◌, ◌++◌, length, Some, None, MatchBool, Option, ◌==◌, nat_le, nat_lt, slice_index_or}
+use Rattle.std.specs.Prelude.{ℕ, suc, ◌<◌, ◌≤◌, Bool, true, false, cond, not, ◌&&◌, ◌||◌, List, [], ◌∷◌, ◌++◌, length, Some, None, MatchBool, Option, ◌==◌, nat_le, nat_lt, slice_index_or}
 use Rattle.cnf.specs.Clauses.{Clauses}
 use Rattle.mtl.specs.declared.row.Row.{Row}
 use Rattle.mtl.specs.declared.row.Row.TheVariants.{Signal}
@@ -29,6 +29,11 @@ is_signal a r = names a (signal_of r)
 abbrev pub has_signal : ℕ → List Row → Bool
 has_signal a [] = false
 has_signal a (r ∷ rs) = is_signal a r || has_signal a rs
+
+-- the signal's row among the rows, which are numbered from n on
+abbrev pub row_of : ℕ → ℕ → List Row → Option ℕ
+row_of n a [] = None
+row_of n a (r ∷ rs) = cond (is_signal a r) (Some n) (row_of (suc n) a rs)
 
 -- the signal, if any, is at most 31 and has no row yet
 abbrev pub is_new : List Row → Option ℕ → Bool

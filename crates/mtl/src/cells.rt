@@ -1,5 +1,5 @@
 // How many cells the lists take, and how many literals their longest clauses have, read from the operators' shapes.
-ghost use Rattle.std.specs.Prelude.{◌≡◌, ℕ, suc, ◌^◌, ◌≤◌, min, List, reverse};
+ghost use Rattle.std.specs.Prelude.{◌≡◌, ℕ, suc, ◌*◌, ◌^◌, ◌<◌, ◌≤◌, min, List, reverse};
 ghost use Rattle.cnf.specs.Clauses.{cells_of, longest_of};
 ghost use Rattle.mtl.specs.Lists.{begin, added};
 ghost use Rattle.mtl.specs.Rows.{past};
@@ -54,44 +54,32 @@ fn if_any(n: u8, count: u32) -> u32
     if n == 0 { 0 } else { count }
 }
 
-// The clauses of one use of a shape over the distance.
-fn shape_clauses(shape: Shape, t: u8) -> u32
-    ensures value { result ≡ shape_clauses shape t }
-    ensures small { result ≤ 257 }
-{
-    match shape {
-        Shape::Free => 0,
-        Shape::Same => 2,
-        Shape::Both | Shape::Either => 3,
-        Shape::Upto | Shape::Hold => 4,
-        Shape::Any | Shape::All => t as u32 + 2,
-    }
+// One use of a shape over the distance: its clauses, its cells, and the literals of its longest clause.
+#[derive(Clone, Copy)]
+struct ShapeSize {
+    clauses: u32,
+    cells: u32,
+    longest: u32,
 }
 
-// Its cells.
-fn shape_cells(shape: Shape, t: u8) -> u32
-    ensures value { result ≡ shape_cells shape t }
-    ensures small { result ≤ 1026 }
+fn shape_size(shape: Shape, t: u8) -> ShapeSize
+    ensures clauses { result.clauses ≡ shape_clauses shape t }
+    ensures cells { result.cells ≡ shape_cells shape t }
+    ensures longest { result.longest ≡ shape_longest shape t }
+    ensures small { (result.clauses ≤ 257) × (result.cells ≤ 1026) × (result.longest ≤ 257) }
 {
-    match shape {
-        Shape::Free => 0,
-        Shape::Same => 6,
-        Shape::Both | Shape::Either => 10,
-        Shape::Upto | Shape::Hold => 15,
-        Shape::Any | Shape::All => 4 * t as u32 + 6,
-    }
-}
-
-// The literals of its longest clause.
-fn shape_longest(shape: Shape, t: u8) -> u32
-    ensures value { result ≡ shape_longest shape t }
-    ensures small { result ≤ 257 }
-{
-    match shape {
-        Shape::Free => 0,
-        Shape::Same => 2,
-        Shape::Both | Shape::Either | Shape::Upto | Shape::Hold => 3,
-        Shape::Any | Shape::All => t as u32 + 2,
+    let t = t as u32;
+    let (clauses, cells, longest) = match shape {
+        Shape::Free => (0, 0, 0),
+        Shape::Same => (2, 6, 2),
+        Shape::Both | Shape::Either => (3, 10, 3),
+        Shape::Upto | Shape::Hold => (4, 15, 3),
+        Shape::Any | Shape::All => (t + 2, 4 * t + 6, t + 2),
+    };
+    ShapeSize {
+        clauses,
+        cells,
+        longest,
     }
 }
 
@@ -100,7 +88,23 @@ fn guarded_cells(shape: Shape) -> u32
     ensures value { result ≡ guarded_cells shape }
     ensures small { result ≤ 1283 }
 {
-    shape_cells(shape, 0) + shape_clauses(shape, 0)
+    shape_size(shape, 0).cells + shape_size(shape, 0).clauses
+}
+
+// f(0) + f(1) + ..., n of them.
+fn total<F: Fn(u8) -> u32>(n: u16, f: F) -> u32
+    requires few { n ≤ 256 }
+    requires callable { F.IsAlwaysCallable f }
+    requires fits { (i y : ℕ) → i < 256 → F.post f i y → y < 2 ^ 16 }
+    ensures value { (g : ℕ → ℕ) → ((i y : ℕ) → i < 256 → F.post f i y → y ≡ g i) → result ≡ total 0 n g }
+    ensures small { (m : ℕ) → ((i y : ℕ) → i < 256 → F.post f i y → y ≤ m) → result ≤ n * m }
+{
+    // a loop, since clauses on f bound the sum, which `sum` of a chain does not read
+    let mut sum = 0;
+    for i in 0..n {
+        sum += f(i as u8);
+    }
+    sum
 }
 
 // The cells at instant i of a row that is delayed by the distance.
@@ -108,29 +112,25 @@ fn delayed_cells_at(shape: Shape, t: u8, i: u8) -> u32
     ensures value { result ≡ delayed_cells_at shape t i }
     ensures small { result ≤ 1026 }
 {
-    if t <= i { shape_cells(shape, 0) } else { 2 }
+    if t <= i {
+        shape_size(shape, 0).cells
+    } else {
+        2
+    }
 }
 
 fn delayed_cells(k: u8, shape: Shape, t: u8) -> u32
     ensures value { result ≡ total 0 (suc k) (delayed_cells_at shape t) }
     ensures small { result ≤ 262656 }
 {
-    let mut sum = 0;
-    for i in 0..=k {
-        sum += delayed_cells_at(shape, t, i);
-    }
-    sum
+    total(k as u16 + 1, |i| delayed_cells_at(shape, t, i))
 }
 
 fn down_cells(k: u8, shape: Shape, t: u8) -> u32
     ensures value { result ≡ total 0 (suc k) (λ i. shape_cells shape (min i t)) }
     ensures small { result ≤ 262656 }
 {
-    let mut sum = 0;
-    for i in 0..=k {
-        sum += shape_cells(shape, i.min(t));
-    }
-    sum
+    total(k as u16 + 1, |i| shape_size(shape, i.min(t)).cells)
 }
 
 // The cells that close instant l - 1 - j, for the loop start l.
@@ -145,11 +145,7 @@ fn closed_cells(l: u8, t: u8) -> u32
     ensures value { result ≡ total 0 t (closed_cells_at l) }
     ensures small { result ≤ 2040 }
 {
-    let mut sum = 0;
-    for j in 0..t {
-        sum += closed_cells_at(l, j);
-    }
-    sum
+    total(t as u16, |j| closed_cells_at(l, j))
 }
 
 // The cells of the closing clauses of a row that reaches t back.
@@ -157,11 +153,7 @@ fn closing_cells(k: u8, t: u8) -> u32
     ensures value { result ≡ closing_cells k t }
     ensures small { result ≤ 522240 }
 {
-    let mut sum = 0;
-    for l in 0..=k {
-        sum += closed_cells(l, t);
-    }
-    sum
+    total(k as u16 + 1, |l| closed_cells(l, t))
 }
 
 fn use_cells(k: u8, shape: Shape, used: Use) -> u32
@@ -169,10 +161,11 @@ fn use_cells(k: u8, shape: Shape, used: Use) -> u32
     ensures small { result ≤ 600000 }
 {
     match used {
-        Use::Each(t) => (k as u32 + 1) * shape_cells(shape, t),
-        Use::Around => k as u32 * shape_cells(shape, 0) + (k as u32 + 1) * guarded_cells(shape),
+        Use::Each(t) => (k as u32 + 1) * shape_size(shape, t).cells,
+        Use::Around => k as u32 * shape_size(shape, 0).cells
+            + (k as u32 + 1) * guarded_cells(shape),
         Use::Delayed(t) => delayed_cells(k, shape, t),
-        Use::Onward => shape_cells(Shape::Same, 0) + k as u32 * shape_cells(shape, 0),
+        Use::Onward => shape_size(Shape::Same, 0).cells + k as u32 * shape_size(shape, 0).cells,
         Use::Down(t) => down_cells(k, shape, t),
     }
 }
@@ -184,7 +177,9 @@ fn extra_cells(k: u8, t: u8, extra: Extra) -> u32
 {
     match extra {
         Extra::Nothing => 0,
-        Extra::Seen => shape_cells(Shape::Both, 0) + k as u32 * shape_cells(Shape::Upto, 0) + 3,
+        Extra::Seen => shape_size(Shape::Both, 0).cells
+            + k as u32 * shape_size(Shape::Upto, 0).cells
+            + 3,
         Extra::Ahead => t as u32 * ((k as u32 + 1) * guarded_cells(Shape::Same)),
     }
 }
@@ -194,7 +189,9 @@ pub fn begin_cells(k: u8) -> u32
     ensures value { result ≡ cells_of (begin k) }
     ensures small { result ≤ 3578 }
 {
-    4 * k as u32 + 2 + shape_cells(Shape::Same, 0) + k as u32 * shape_cells(Shape::Either, 0)
+    let same = shape_size(Shape::Same, 0);
+    let either = shape_size(Shape::Either, 0);
+    4 * k as u32 + 2 + same.cells + k as u32 * either.cells
 }
 
 // The cells of the list of a row, after any rows.
@@ -212,11 +209,17 @@ fn use_longest(k: u8, shape: Shape, used: Use) -> u32
     ensures { result ≡ use_longest k shape used }
 {
     match used {
-        Use::Each(t) => shape_longest(shape, t),
-        Use::Around => shape_longest(shape, 0) + 1,
-        Use::Delayed(t) => if t <= k { shape_longest(shape, 0) } else { 1 },
-        Use::Onward => shape_longest(Shape::Same, 0).max(if_any(k, shape_longest(shape, 0))),
-        Use::Down(t) => shape_longest(shape, k.min(t)),
+        Use::Each(t) => shape_size(shape, t).longest,
+        Use::Around => shape_size(shape, 0).longest + 1,
+        Use::Delayed(t) => if t <= k {
+            shape_size(shape, 0).longest
+        } else {
+            1
+        },
+        Use::Onward => shape_size(Shape::Same, 0)
+            .longest
+            .max(if_any(k, shape_size(shape, 0).longest)),
+        Use::Down(t) => shape_size(shape, k.min(t)).longest,
     }
 }
 
@@ -241,8 +244,8 @@ pub fn begin_longest(k: u8) -> u32
     ensures { result ≡ longest_of (begin k) }
 {
     (k as u32 + 1)
-        .max(shape_longest(Shape::Same, 0))
-        .max(if_any(k, shape_longest(Shape::Either, 0)))
+        .max(shape_size(Shape::Same, 0).longest)
+        .max(if_any(k, shape_size(Shape::Either, 0).longest))
 }
 
 // The literals of the longest clause of a row's list, after any rows.

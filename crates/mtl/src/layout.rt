@@ -1,5 +1,5 @@
 // The variables of a job: first those of begin, then a block for each row.
-ghost use Rattle.std.specs.Prelude.{◌≡◌, ◌+◌, ◌-◌, ◌≤◌, length};
+ghost use Rattle.std.specs.Prelude.{◌≡◌, ◌+◌, ◌-◌, ◌^◌, ◌<◌, ◌≤◌, reverse};
 ghost use Rattle.mtl.specs.Lists.{starts, inside, top, start, value};
 ghost use Rattle.mtl.specs.Layout.{newest_of, size, sizes, most};
 
@@ -12,20 +12,14 @@ use cnf::clause::Literal;
 pub fn starts_at(i: u8) -> Literal
     ensures { result ≡ starts i }
 {
-    Literal {
-        variable: i as u32 + 1,
-        positive: true,
-    }
+    Literal::asserted(i as u32 + 1)
 }
 
 // N(i): the loop starts at i or before.
 pub fn inside_at(k: u8, i: u8) -> Literal
     ensures { result ≡ inside k i }
 {
-    Literal {
-        variable: k as u32 + 2 + i as u32,
-        positive: true,
-    }
+    Literal::asserted(k as u32 + 2 + i as u32)
 }
 
 // How many variables a row has.
@@ -41,26 +35,23 @@ pub fn block_size(k: u8, row: Row) -> u32
     k as u32 + 1 + extra
 }
 
-// How many variables the rows have.
-fn blocks(k: u8, rows: &[Row]) -> u32
-    requires { length rows.now ≤ 32 }
-    ensures value { result ≡ sizes k rows.now }
-    ensures small { result ≤ 16384 }
+// The first variable after the blocks of the rows.
+#[tactic(auto, using(crate::proofs::Places::top_at))]
+fn after(k: u8, rows: &[Row]) -> u32
+    requires { sizes k rows.now < 2 ^ 16 }
+    ensures { result ≡ top k (reverse rows.now) }
 {
-    let mut sum = 0;
-    for row in rows {
-        sum += block_size(k, *row);
-    }
-    sum
+    2 * k as u32 + 3 + rows.iter().map(|row| block_size(k, *row)).sum::<u32>()
 }
 
 impl Table {
     // The first variable after the blocks of the rows, where the block of the next row starts.
+    #[tactic(auto, using(crate::proofs::Places::small_table, crate::proofs::Places::small_top))]
     pub fn top(&self, k: u8) -> u32
         ensures value { result ≡ top k (newest_of self.now) }
         ensures bound { result ≤ most k + 1 }
     {
-        2 * k as u32 + 3 + blocks(k, self.as_slice())
+        after(k, self.as_slice())
     }
 
     // The highest variable.
@@ -71,7 +62,8 @@ impl Table {
         self.top(k) - 1
     }
 
-    // The first variable of row n's block, 0 where there is no such row.
+    // The first variable of row n's block, 0 where there is no such row: no variable has that number.
+    #[tactic(auto, using(crate::proofs::Places::none_at, crate::proofs::Places::start_top, crate::proofs::Places::small_part, crate::proofs::Places::small_start))]
     pub fn start(&self, k: u8, n: u8) -> u32
         ensures value { result ≡ start k (newest_of self.now) n }
         ensures bound { result ≤ most k }
@@ -80,16 +72,13 @@ impl Table {
         if n as usize >= rows.len() {
             return 0;
         }
-        2 * k as u32 + 3 + blocks(k, &rows[0..n as usize])
+        after(k, &rows[..n as usize])
     }
 
     // V(i) of row n: the row is true at i.
     pub fn value(&self, k: u8, n: u8, i: u8) -> Literal
         ensures { result ≡ value k (newest_of self.now) n i }
     {
-        Literal {
-            variable: self.start(k, n) + i as u32,
-            positive: true,
-        }
+        Literal::asserted(self.start(k, n) + i as u32)
     }
 }

@@ -3,6 +3,7 @@
 
 pub mod bound;
 pub mod cells;
+mod fields;
 pub mod layout;
 pub mod operator;
 pub mod requirement;

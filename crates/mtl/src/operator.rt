@@ -3,7 +3,7 @@ ghost use Rattle.std.specs.Prelude.{◌≡◌};
 ghost use Rattle.mtl.specs.Fields.{operator_with};
 
 // The variables that an operator has besides one for each instant.
-#[derive(Clone, Copy)]
+#[derive(Clone, Copy, PartialEq, Eq, Debug)]
 pub enum Extra {
     Nothing,
     // one for each instant of the run
@@ -13,7 +13,7 @@ pub enum Extra {
 }
 
 // The shape of the clauses that tie a row to its operands.
-#[derive(Clone, Copy)]
+#[derive(Clone, Copy, PartialEq, Eq, Debug)]
 pub enum Shape {
     Free,
     Same,
@@ -25,8 +25,9 @@ pub enum Shape {
     All,
 }
 
-#[derive(Clone, Copy)]
+#[derive(Clone, Copy, PartialEq, Eq, Debug)]
 pub struct Operator {
+    // the byte that names it in a frame
     pub code: u8,
     pub operands: u8,
     pub timed: bool,
@@ -34,135 +35,47 @@ pub struct Operator {
     pub shape: Shape,
 }
 
+// A row for each operator: its code, as the files of scripts write it, its operands, whether it has a distance, its extra
+// variables and its shape.
+macro_rules! operators {
+    ($($code:literal $operands:literal $timed:literal $extra:ident $shape:ident,)*) => {
+        [$(Operator {
+            code: $code,
+            operands: $operands,
+            timed: $timed,
+            extra: Extra::$extra,
+            shape: Shape::$shape,
+        }),*]
+    };
+}
+
 // The seventeen operators in the order of their codes, 1 to 17.
-pub const OPERATORS: [Operator; 17] = [
-    Operator {
-        code: 1,
-        operands: 0,
-        timed: false,
-        extra: Extra::Nothing,
-        shape: Shape::Free,
-    },
-    Operator {
-        code: 2,
-        operands: 1,
-        timed: false,
-        extra: Extra::Nothing,
-        shape: Shape::Same,
-    },
-    Operator {
-        code: 3,
-        operands: 2,
-        timed: false,
-        extra: Extra::Nothing,
-        shape: Shape::Both,
-    },
-    Operator {
-        code: 4,
-        operands: 2,
-        timed: false,
-        extra: Extra::Nothing,
-        shape: Shape::Either,
-    },
-    Operator {
-        code: 5,
-        operands: 1,
-        timed: false,
-        extra: Extra::Nothing,
-        shape: Shape::Same,
-    },
-    Operator {
-        code: 6,
-        operands: 2,
-        timed: false,
-        extra: Extra::Seen,
-        shape: Shape::Upto,
-    },
-    Operator {
-        code: 7,
-        operands: 2,
-        timed: false,
-        extra: Extra::Seen,
-        shape: Shape::Hold,
-    },
-    Operator {
-        code: 8,
-        operands: 1,
-        timed: true,
-        extra: Extra::Ahead,
-        shape: Shape::Same,
-    },
-    Operator {
-        code: 9,
-        operands: 1,
-        timed: true,
-        extra: Extra::Ahead,
-        shape: Shape::Any,
-    },
-    Operator {
-        code: 10,
-        operands: 1,
-        timed: true,
-        extra: Extra::Ahead,
-        shape: Shape::All,
-    },
-    Operator {
-        code: 11,
-        operands: 1,
-        timed: false,
-        extra: Extra::Nothing,
-        shape: Shape::Same,
-    },
-    Operator {
-        code: 12,
-        operands: 1,
-        timed: false,
-        extra: Extra::Nothing,
-        shape: Shape::Same,
-    },
-    Operator {
-        code: 13,
-        operands: 2,
-        timed: false,
-        extra: Extra::Nothing,
-        shape: Shape::Upto,
-    },
-    Operator {
-        code: 14,
-        operands: 2,
-        timed: false,
-        extra: Extra::Nothing,
-        shape: Shape::Hold,
-    },
-    Operator {
-        code: 15,
-        operands: 1,
-        timed: true,
-        extra: Extra::Nothing,
-        shape: Shape::Same,
-    },
-    Operator {
-        code: 16,
-        operands: 1,
-        timed: true,
-        extra: Extra::Nothing,
-        shape: Shape::Any,
-    },
-    Operator {
-        code: 17,
-        operands: 1,
-        timed: true,
-        extra: Extra::Nothing,
-        shape: Shape::All,
-    },
+pub const OPERATORS: [Operator; 17] = operators![
+    1 0 false Nothing Free,
+    2 1 false Nothing Same,
+    3 2 false Nothing Both,
+    4 2 false Nothing Either,
+    5 1 false Nothing Same,
+    6 2 false Seen Upto,
+    7 2 false Seen Hold,
+    8 1 true Ahead Same,
+    9 1 true Ahead Any,
+    10 1 true Ahead All,
+    11 1 false Nothing Same,
+    12 1 false Nothing Same,
+    13 2 false Nothing Upto,
+    14 2 false Nothing Hold,
+    15 1 true Nothing Same,
+    16 1 true Nothing Any,
+    17 1 true Nothing All,
 ];
 
 // The operator of a code, if it is one.
 pub fn operator_of(code: u8) -> Option<Operator>
     ensures { result ≡ operator_with code }
 {
-    if code < 1 || code > 17 {
-        return None;
+    match code {
+        1..=17 => Some(OPERATORS[code as usize - 1]),
+        _ => None,
     }
-    Some(OPERATORS[(code - 1) as usize])
 }

@@ -1,7 +1,7 @@
 // What is asked of a run.
 
 // The row with this number has this truth at this instant.
-#[derive(Clone, Copy)]
+#[derive(Clone, Copy, PartialEq, Eq, Debug)]
 pub struct Requirement {
     pub row: u8,
     pub instant: u8,

@@ -4,8 +4,9 @@ ghost use Rattle.mtl.specs.Rows.{code, first, second, distance, signal_of, opera
 ghost use Rattle.mtl.specs.Fields.{row_of};
 
 use crate::operator::{OPERATORS, Operator};
+use calls::records::Define;
 
-#[derive(Clone, Copy)]
+#[derive(Clone, Copy, PartialEq, Eq, Debug)]
 pub enum Row {
     Signal(u8),
     Not(u8),
@@ -27,6 +28,10 @@ pub enum Row {
 }
 
 impl Row {
+    pub const HIGHEST_SIGNAL: u8 = 31;
+
+    pub const HIGHEST_DISTANCE: u8 = 31;
+
     // The row of a code, 1 to 17, and the fields that its operator has a use for.
     pub fn from_fields(code: u8, a: u8, b: u8, t: u8) -> Option<Row>
         ensures { result ≡ row_of code a b t }
@@ -54,85 +59,34 @@ impl Row {
     }
 
     // The code of its operator.
+    #[tactic(auto, using(crate::proofs::Rows::code_range))]
     pub fn code(self) -> u8
         ensures value { result ≡ code self }
         ensures least { 1 ≤ result }
         ensures most { result ≤ 17 }
     {
-        match self {
-            Row::Signal(_) => 1,
-            Row::Not(_) => 2,
-            Row::And(_, _) => 3,
-            Row::Or(_, _) => 4,
-            Row::Next(_) => 5,
-            Row::Until(_, _) => 6,
-            Row::Release(_, _) => 7,
-            Row::After(_, _) => 8,
-            Row::Within(_, _) => 9,
-            Row::Throughout(_, _) => 10,
-            Row::Previous(_) => 11,
-            Row::WeakPrevious(_) => 12,
-            Row::Since(_, _) => 13,
-            Row::Trigger(_, _) => 14,
-            Row::Ago(_, _) => 15,
-            Row::Lately(_, _) => 16,
-            Row::Steadily(_, _) => 17,
-        }
+        Define::from(self).code
     }
 
     // A signal's number, or the number of the first operand's row.
     pub fn first(self) -> u8
         ensures { result ≡ first self }
     {
-        match self {
-            Row::Signal(a)
-            | Row::Not(a)
-            | Row::And(a, _)
-            | Row::Or(a, _)
-            | Row::Next(a)
-            | Row::Until(a, _)
-            | Row::Release(a, _)
-            | Row::After(a, _)
-            | Row::Within(a, _)
-            | Row::Throughout(a, _)
-            | Row::Previous(a)
-            | Row::WeakPrevious(a)
-            | Row::Since(a, _)
-            | Row::Trigger(a, _)
-            | Row::Ago(a, _)
-            | Row::Lately(a, _)
-            | Row::Steadily(a, _) => a,
-        }
+        Define::from(self).a
     }
 
-    // The number of the second operand's row, 0 where there is none.
+    // The number of the second operand's row, 0 where there is none: an unused field of a frame is zero.
     pub fn second(self) -> u8
         ensures { result ≡ second self }
     {
-        match self {
-            Row::And(_, b)
-            | Row::Or(_, b)
-            | Row::Until(_, b)
-            | Row::Release(_, b)
-            | Row::Since(_, b)
-            | Row::Trigger(_, b) => b,
-            _ => 0,
-        }
+        Define::from(self).b
     }
 
-    // Its distance, 0 where it has none.
+    // Its distance, 0 where it has none, as in a frame.
     pub fn distance(self) -> u8
         ensures { result ≡ distance self }
     {
-        match self {
-            Row::After(_, t)
-            | Row::Within(_, t)
-            | Row::Throughout(_, t)
-            | Row::Ago(_, t)
-            | Row::Lately(_, t)
-            | Row::Steadily(_, t) => t,
-            _ => 0,
-        }
+        Define::from(self).t
     }
 
     // The signal of a signal's row.

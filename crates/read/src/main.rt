@@ -11,10 +11,10 @@ use std::process::ExitCode;
 // An answer of more bytes is refused, whatever they are.
 const MOST_ANSWER: u64 = 60_001;
 
-// Prints the report; true where it is a refusal.
-fn run(rt: &HostRuntime) -> anyhow::Result<bool> {
+// The status is 1 for a refusal.
+fn main(rt: HostRuntime) -> anyhow::Result<ExitCode> {
     let mut script = Vec::new(rt.alloc());
-    File::open(rt, "script.txt")?
+    File::open(&rt, "script.txt")?
         .take(MOST_SCRIPT)
         .read_to_end(&mut script)?;
     let mut reply = Vec::new(rt.alloc());
@@ -24,14 +24,8 @@ fn run(rt: &HostRuntime) -> anyhow::Result<bool> {
     let told = make_report(&script, &reply, &mut work, &mut output);
     let bytes = told.bytes;
     rt.stdout().write_all(&output[0..bytes])?;
-    Ok(told.refused)
-}
-
-// The status is 1 for a refusal.
-fn main(rt: HostRuntime) -> anyhow::Result<ExitCode> {
-    if run(&rt)? {
-        Ok(ExitCode::FAILURE)
-    } else {
-        Ok(ExitCode::SUCCESS)
+    match told.outcome {
+        Ok(_) => Ok(ExitCode::SUCCESS),
+        Err(_) => Ok(ExitCode::FAILURE),
     }
 }

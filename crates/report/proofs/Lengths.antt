@@ -2,10 +2,11 @@
 use Rattle.std.proofs.Common.{◌≡◌, ℕ, zero, suc, ◌+◌, ◌*◌, ◌^◌, ◌<◌, ◌≤◌, List, [], ◌∷◌, ◌++◌, length, get_or, take, codes, decimal, sym, refl, ap, ◌∙◌, append_assoc, add-zero, arith, length-append}
 use Rattle.std.proofs.lemmas.List.{take_more, length-take-le, append-nil}
 use Rattle.std.proofs.lemmas.Fmt.{length-decimal-le}
+use Rattle.bounded.specs.Items.{items}
+use Rattle.sinks.specs.Lines.{pair_line}
 use Rattle.sinks.proofs.Over.{pair_long}
-use Rattle.report.specs.declared.outcome.Notice.{Notice}
 use Rattle.report.specs.declared.outcome.ShownRun.{ShownRun}
-use Rattle.report.specs.Texts.{notice_text, out_text, letter_line, letter_lines, run_line, run_text}
+use Rattle.report.specs.Texts.{out_text, letter_line, letter_lines, run_line, bound, run_text}
 
 length_take_most : (n : ℕ) (xs : List ℕ) → length (take n xs) ≤ n
 length_take_most zero xs = omega arith
@@ -42,13 +43,13 @@ lines_more xs n h =
     ∙ ap (λ m. letter_lines 0 (take n xs) ++ letter_line m (get_or xs n 0)) e
 
 -- each text fits
-pub notice-short : (n : Notice) → n.number < 2 ^ 32 → n.line < 2 ^ 64 → length (notice_text n) ≤ 40
-notice-short n h k =
-    omega (arith, pair_long (codes "REFUSED ") n.number n.line, length-decimal-le 10 n.number (omega arith) (omega arith) (omega arith), length-decimal-le 20 n.line (omega arith) (omega arith) k)
+pub refusal_short : (number line : ℕ) → number < 2 ^ 32 → line < 2 ^ 64 → length (pair_line (codes "REFUSED ") number line) ≤ 40
+refusal_short number line h k =
+    omega (arith, pair_long (codes "REFUSED ") number line, length-decimal-le 10 number (omega arith) (omega arith) (omega arith), length-decimal-le 20 line (omega arith) (omega arith) k)
 
 pub out_short : (n : ℕ) → n < 2 ^ 64 → length (out_text n) ≤ 28
 out_short n h = omega (arith, out_long n, length-decimal-le 20 n (omega arith) (omega arith) h)
 
 pub run_short : (x : ShownRun) → length (run_text x) ≤ 489
 run_short x =
-    omega (arith, length-append (run_line x.bound x.start) (letter_lines 0 (take (x.bound + 1) x.letters)), run_long x.bound x.start, lines_long 0 (take (x.bound + 1) x.letters), length_take_most (x.bound + 1) x.letters, x.low)
+    omega (arith, length-append (run_line (bound x) x.start) (letter_lines 0 (items x.letters)), run_long (bound x) x.start, lines_long 0 (items x.letters), length_take_most x.letters.len x.letters.places, x.letters.few)

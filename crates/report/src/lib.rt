@@ -2,5 +2,6 @@
 #![tactic(auto)]
 
 pub mod outcome;
+pub mod refusal;
 pub mod reporting;
 pub mod telling;

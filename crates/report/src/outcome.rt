@@ -1,10 +1,12 @@
-// What comes of a script and a solver's answer to its clauses.
-ghost use Rattle.std.specs.Prelude.{◌≤◌};
+// What a solver's answer to the clauses of a script comes to.
+ghost use Rattle.std.specs.Prelude.{◌<◌, length};
+ghost use Rattle.bounded.specs.Items.{items};
+
+use crate::refusal::Refusal;
+use bounded::Bounded;
 
 #[derive(Clone, Copy)]
 pub enum Report {
-    // the script, the answer or the run is refused
-    Refused(Notice),
     // the solver found no assignment
     Unsatisfiable,
     // the assignment is out: the number of the first clause that it makes false
@@ -13,25 +15,29 @@ pub enum Report {
     Shown(ShownRun),
 }
 
-// The number of the question that was answered no, and the line of the script, counted from 1; 0 for another text's.
-#[derive(Clone, Copy)]
-pub struct Notice {
-    pub number: u32,
-    pub line: usize,
-}
-
-// A run: its bound, its loop start, and the letters of the instants 0 to the bound; the places behind them say nothing.
+// A run: its loop start, and the letters of the instants from 0 to the bound.
 #[derive(Clone, Copy)]
 pub struct ShownRun {
-    pub bound: u8,
     pub start: u8,
-    pub letters: [u32; 32],
-    ghost low: { bound ≤ 31 },
+    pub letters: Bounded<u32, 32>,
+    ghost some: { 0 < length (items letters) },
 }
 
-// How many bytes tell a report, and whether it is a refusal.
+impl ShownRun {
+    ghost use Rattle.std.specs.Prelude.{◌≡◌};
+    ghost use Rattle.report.specs.Texts.{bound};
+
+    // The last instant.
+    pub fn bound(&self) -> u8
+        ensures { result ≡ bound self.now }
+    {
+        (self.letters.len() - 1) as u8
+    }
+}
+
+// What came of a script and an answer, and how many bytes tell it.
 #[derive(Clone, Copy)]
 pub struct Told {
+    pub outcome: Result<Report, Refusal>,
     pub bytes: usize,
-    pub refused: bool,
 }

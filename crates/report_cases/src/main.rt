@@ -12,16 +12,12 @@ const NEXT: &[u8] = b"B00050\nD0010000002F\nD0050000002B\nE00100011E\n";
 // Bound 1, signals 0 and 31: eight variables.
 const TWO: &[u8] = b"B0014F\nD0010000002F\nD0011F000010\n";
 
-fn show_name(rt: &HostRuntime, name: &str, refused: bool) -> anyhow::Result<()> {
-    println!(rt; "{name}, refused {refused}:")?;
-    Ok(())
-}
-
 fn show(rt: &HostRuntime, name: &str, script: &[u8], reply: &[u8]) -> anyhow::Result<()> {
     let mut work = [0u8; WORK_BYTES];
     let mut output = [0u8; REPORT_BYTES];
     let told = make_report(script, reply, &mut work, &mut output);
-    show_name(rt, name, told.refused)?;
+    let refused = told.outcome.is_err();
+    println!(rt; "{name}, refused {refused}:")?;
     let bytes = told.bytes;
     rt.stdout().write_all(&output[0..bytes])?;
     Ok(())

@@ -1,6 +1,6 @@
 // A rink's interlocks as clauses: written through a switch, then judged by two states of the plant.
 ghost use Rattle.std.specs.Prelude.{◌≡◌, [], ◌∷◌};
-ghost use Rattle.cnf.specs.Clauses.{asserted, negated};
+ghost use Rattle.cnf.specs.Clauses.{negated};
 
 use anyhow::anyhow;
 use cnf::clause::Literal;
@@ -11,7 +11,7 @@ use sinks::judge::Judge;
 use sinks::writer::Writer;
 use std::io::Write;
 
-// The plant's state, a variable each.
+// The parts of the plant, by their variables.
 const PUMP: u32 = 1;
 
 const COMPRESSOR: u32 = 2;
@@ -31,50 +31,30 @@ struct Interlock {
     clause: [Literal; 2],
 }
 
-// Where the first is on, the second is on.
-fn implies(words: &'static str, first: u32, second: u32) -> Interlock
-    ensures { result.clause ≡ negated first ∷ asserted second ∷ [] }
+// Where the part is on, the literal holds.
+fn while_on(words: &'static str, part: u32, literal: Literal) -> Interlock
+    ensures { result.clause ≡ negated part ∷ literal ∷ [] }
 {
-    let clause = [
-        Literal {
-            variable: first,
-            positive: false,
-        },
-        Literal {
-            variable: second,
-            positive: true,
-        },
-    ];
-    Interlock { words, clause }
-}
-
-// The two are never on together.
-fn excludes(words: &'static str, first: u32, second: u32) -> Interlock
-    ensures { result.clause ≡ negated first ∷ negated second ∷ [] }
-{
-    let clause = [
-        Literal {
-            variable: first,
-            positive: false,
-        },
-        Literal {
-            variable: second,
-            positive: false,
-        },
-    ];
-    Interlock { words, clause }
+    Interlock {
+        words,
+        clause: [Literal::negated(part), literal],
+    }
 }
 
 fn interlocks() -> [Interlock; 4] {
     [
-        implies(
+        while_on(
             "the compressor runs only with the brine pump",
             COMPRESSOR,
-            PUMP,
+            Literal::asserted(PUMP),
         ),
-        excludes("no fan during defrost", DEFROST, FAN),
-        excludes("no fan during a flood", FLOOD, FAN),
-        excludes("no compressor during defrost", DEFROST, COMPRESSOR),
+        while_on("no fan during defrost", DEFROST, Literal::negated(FAN)),
+        while_on("no fan during a flood", FLOOD, Literal::negated(FAN)),
+        while_on(
+            "no compressor during defrost",
+            DEFROST,
+            Literal::negated(COMPRESSOR),
+        ),
     ]
 }
 
@@ -89,9 +69,9 @@ fn write_all(rt: &HostRuntime, rules: &[Interlock]) -> anyhow::Result<()> {
     let mut area = [0u8; 256];
     let mut writer = Writer::new(&mut area);
     for rule in rules {
-        if let Err(refusal) = take_switched(&mut writer, ARMED, &rule.clause) {
-            return say_refused(rt, refusal);
-        }
+        take_switched(&mut writer, ARMED, &rule.clause).or_else(|refusal| say_refused(
+            rt, refusal,
+        ))?;
     }
     let count = writer.count();
     let free = writer.free_cells();
@@ -109,15 +89,16 @@ fn judge_all(
 ) -> anyhow::Result<()> {
     let mut judge = Judge::new(state);
     for rule in rules {
-        if let Err(refusal) = judge.take(&rule.clause) {
-            return say_refused(rt, refusal);
-        }
+        judge
+            .take(&rule.clause)
+            .or_else(|refusal| say_refused(rt, refusal))?;
     }
     let fault = judge.first_false();
-    if fault == 0 {
-        println!(rt; "{name}: in")?;
-    } else if let Some(rule) = rules.get(fault - 1) {
-        println!(rt; "{name}: out, interlock {fault} is broken: {}", rule.words)?;
+    match fault.checked_sub(1).and_then(|place| rules.get(place)) {
+        None => println!(rt; "{name}: in")?,
+        Some(rule) => {
+            println!(rt; "{name}: out, interlock {fault} is broken: {}", rule.words)?;
+        }
     }
     Ok(())
 }

@@ -1,20 +1,19 @@
 // A rule over time: the brine pump has run for three minutes before the compressor starts.
+use calls::{beginning, defining, requiring};
 use job::bottom::{judge_rules, write_rules};
 use job::call::{Call, Exchange};
 use std::io::Write;
 
-// The operators' codes.
-const SIGNAL: u8 = 0x01;
-
-const NOT: u8 = 0x02;
-
-const AND: u8 = 0x03;
-
-const OR: u8 = 0x04;
-
-const PREVIOUS: u8 = 0x0B;
-
-const STEADILY: u8 = 0x11;
+// The operators of the rule, by their codes.
+#[derive(Clone, Copy)]
+enum Operator {
+    Signal = 0x01,
+    Not = 0x02,
+    And = 0x03,
+    Or = 0x04,
+    Previous = 0x0B,
+    Steadily = 0x11,
+}
 
 // The values of the variables for this run of six minutes, with the last one for ever: the pump from minute 1 on, the compressor
 // from minute 4 on.
@@ -26,50 +25,46 @@ const STARTED_LATE: [u8; 60] = [
 // The bytes of the first six lines.
 const FIRST_LINES: usize = 56;
 
-fn asked(call: Call) -> Exchange {
-    Exchange { call, answer: None }
+fn define(operator: Operator, a: u8, b: u8, t: u8) -> Call {
+    defining(operator as u8, a, b, t)
 }
 
 // The rows of the rule, that it holds in each minute, and a start in minute 4 after a first minute without the pump.
 fn pump_before_compressor() -> [Exchange; 17] {
     [
-        asked(Call::Begin(5)),
-        asked(Call::Define(SIGNAL, 0, 0, 0)),
-        asked(Call::Define(SIGNAL, 1, 0, 0)),
-        asked(Call::Define(STEADILY, 0, 0, 3)),
-        asked(Call::Define(PREVIOUS, 1, 0, 0)),
-        asked(Call::Define(NOT, 3, 0, 0)),
-        asked(Call::Define(AND, 1, 4, 0)),
-        asked(Call::Define(NOT, 5, 0, 0)),
-        asked(Call::Define(OR, 6, 2, 0)),
-        asked(Call::Require(7, 0, 1)),
-        asked(Call::Require(7, 1, 1)),
-        asked(Call::Require(7, 2, 1)),
-        asked(Call::Require(7, 3, 1)),
-        asked(Call::Require(7, 4, 1)),
-        asked(Call::Require(7, 5, 1)),
-        asked(Call::Require(0, 0, 0)),
-        asked(Call::Require(5, 4, 1)),
+        beginning(5),
+        define(Operator::Signal, 0, 0, 0),
+        define(Operator::Signal, 1, 0, 0),
+        define(Operator::Steadily, 0, 0, 3),
+        define(Operator::Previous, 1, 0, 0),
+        define(Operator::Not, 3, 0, 0),
+        define(Operator::And, 1, 4, 0),
+        define(Operator::Not, 5, 0, 0),
+        define(Operator::Or, 6, 2, 0),
+        requiring(7, 0, 1),
+        requiring(7, 1, 1),
+        requiring(7, 2, 1),
+        requiring(7, 3, 1),
+        requiring(7, 4, 1),
+        requiring(7, 5, 1),
+        requiring(0, 0, 0),
+        requiring(5, 4, 1),
     ]
+    .map(Exchange::from)
 }
 
 fn refused(exchanges: &[Exchange]) -> usize {
-    let mut count = 0usize;
-    for exchange in exchanges {
-        if let Some(Err(_)) = exchange.answer {
-            count = count.saturating_add(1);
-        }
-    }
-    count
+    exchanges
+        .iter()
+        .filter(|exchange| matches!(exchange.answer, Some(Err(_))))
+        .count()
 }
 
 // Judges an assignment by the rule, and prints the verdict.
 fn judge_run(rt: &HostRuntime, name: &str, values: &[u8]) -> anyhow::Result<()> {
-    let told = judge_rules(values, &mut pump_before_compressor());
-    if told == 0 {
-        println!(rt; "{name}: a run of the rule")?;
-    } else {
-        println!(rt; "{name}: no run of the rule, clause {told} is false")?;
+    match judge_rules(values, &mut pump_before_compressor()) {
+        0 => println!(rt; "{name}: a run of the rule")?,
+        clause => println!(rt; "{name}: no run of the rule, clause {clause} is false")?,
     }
     Ok(())
 }

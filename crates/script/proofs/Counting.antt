@@ -4,9 +4,9 @@ use Rattle.std.proofs.lemmas.List.{length_push}
 use Rattle.std.proofs.lemmas.Bool.{not-true, false≢true}
 use Rattle.std.specs.List.{AllByRecursion}
 use Rattle.cnf.specs.Sinks.{Model}
-use Rattle.job.specs.declared.call.Call.{Call}
-use Rattle.job.specs.declared.call.Call.TheVariants.{Begin, Define, Require}
-use Rattle.calls.specs.Lines.{written_call}
+use Rattle.calls.specs.declared.Call.{Call}
+use Rattle.calls.specs.declared.Call.TheVariants.{Begin, Define, Require}
+use Rattle.frames.specs.Script.{written_call}
 use Rattle.job.specs.Calls.{State, Answer, fresh, asks, after, answer_to, row_with, requirement}
 use Rattle.job.specs.Runs.{then_knows, Ran, none, more}
 use Rattle.job.proofs.Accepted.{Yes, define_yes, require_yes}
@@ -38,13 +38,13 @@ one_more : (s : State) (c : Call) → Yes (asks s c) → Room s → OneMore s (a
 one_more s (Begin _) (idle, _) room =
     let none_yet : one_if s.begun ≡ 0 = ap one_if (not-true s.begun idle) in
     (room, omega arith)
-one_more s (Define code a b t) y (rows, kept) =
-    let new = define_yes s code a b t y in
-    let more_rows = length_push s.rows (row_with code a b t) in
+one_more s (Define d) y (rows, kept) =
+    let new = define_yes s d y in
+    let more_rows = length_push s.rows (row_with d) in
     ((omega (arith, new.room, more_rows), kept), omega (arith, more_rows))
-one_more s (Require row instant value) y (rows, kept) =
-    let new = require_yes s row instant value y in
-    let more_kept = length_push s.kept (requirement row instant value) in
+one_more s (Require q) y (rows, kept) =
+    let new = require_yes s q y in
+    let more_kept = length_push s.kept (requirement q) in
     ((rows, omega (arith, new.room, more_kept)), omega (arith, more_kept))
 
 module _ {S : Type 0} (m : Model S) where
@@ -67,8 +67,8 @@ Short l = length l ≤ 14
 
 short : (c : Call) → Short (written_call c)
 short (Begin _) = omega arith
-short (Define code a b t) = omega arith
-short (Require row instant value) = omega arith
+short (Define _) = omega arith
+short (Require _) = omega arith
 
 pub all_short : (cs : List Call) → AllByRecursion Short (map written_call cs)
 all_short [] = tt

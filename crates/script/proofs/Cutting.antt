@@ -7,7 +7,7 @@ use Rattle.std.specs.List.{AllByRecursion}
 use Rattle.cnf.specs.Sinks.{Model}
 use Rattle.text.specs.Split.{start, lines}
 use Rattle.frames.specs.declared.refusals.Refusal.TheVariants.{Digits}
-use Rattle.calls.specs.Lines.{by_frame, calling, written_call}
+use Rattle.frames.specs.Script.{calling, written_call}
 use Rattle.job.specs.Calls.{State, fresh}
 use Rattle.script.specs.declared.refusal.Stop.{Stop}
 use Rattle.script.specs.Scripts.{by_line, line_answer, Ended, ScriptRan, DroveScript}
@@ -52,7 +52,7 @@ behind (l ∷ a) rest (k ∷ ms) n (short, shorts) h (inr (j, same, count, e)) =
 
 -- a line of more than 14 characters is refused
 too_long : (l : List ℕ) → 14 < length l → calling l ≡ Err Digits
-too_long l h = ap by_frame (cond-false _ _ (Err Digits) (and_left _ _ (and_right _ _ (and_left _ _ (lt-leb (length l) 14 h)))))
+too_long l h = cond-false _ _ (Err Digits) (and_left _ _ (and_right _ _ (and_left _ _ (lt-leb (length l) 14 h))))
 
 module _ {S : Type 0} (m : Model S) (k : S) (s : State) (n : ℕ) (r : Result (Unit {0}) Stop) where
   ended_alike : (j : ℕ) (rest rest' : List (List ℕ)) → 14 < j → Alike j rest rest' → Ended m k s n rest r → Ended m k s n rest' r

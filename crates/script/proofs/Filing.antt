@@ -17,7 +17,7 @@ use Rattle.script.specs.declared.refusal.Stop.{Stop}
 use Rattle.script.specs.Scripts.{clauses, DroveScript}
 use Rattle.script.specs.Files.{heading, file, FileStands, Made, Filed}
 
-pub heading-short : (v n : ℕ) → v < 10000 → n < 100000 → length (heading v n) ≤ 17
+heading-short : (v n : ℕ) → v < 10000 → n < 100000 → length (heading v n) ≤ 17
 heading-short v n h k = omega (arith, pair_long (codes "p cnf ") v n, length-decimal-le 4 v (omega arith) h (omega arith), length-decimal-le 5 n (omega arith) k (omega arith))
 
 -- a writer keeps the area that it was lent, and its length
@@ -35,14 +35,22 @@ module _ {text : List ℕ} {r : Result (Unit {0}) Stop} {w v : Writer} {z : Stat
 
   -- what the caller of a writer learns, with what it then puts behind the heading
   module _ (work before : List ℕ) (new : NewWriter work w) where
+    -- over an area of 60,000 bytes the heading is short, since fewer lines are written than there are bytes
+    module _ (size : length work ≡ 60000) where
+      pub lines_fit : v.used ≤ 60000
+      lines_fit = omega (arith, v.written.0, same_length, ap length new.bytes, size)
+
+      pub front_short : (top count : ℕ) → top < 10000 → count ≡ v.taken → length (heading top count) ≤ 17
+      front_short top count h e = heading-short top count h (omega (arith, e, v.written.2, lines_fit))
+
     exactly : z.begun ≡ true → ((α : Assignment) × (sat_all α (clauses d.script) ≡ true)) ↔ Possible z
     exactly = possible_is writer_model w v d.script.calls d.script.answers z d.promise
 
     filed : (after : List ℕ) (a : Result ℕ Stop) → Made r (highest z) (clauses d.script) before after a → Filed work text before after a
     filed after a made = record { result = r; state = z; start = w; end = v; new = new; drove = d; made = made; exact = exactly }
 
-    pub refused : (stop : Stop) → r ≡ Err stop → Filed work text before before (Err stop)
-    refused stop e = filed before (Err stop) (subst (λ x. Made x (highest z) (clauses d.script) before before (Err stop)) (sym e) (refl, refl))
+    pub refused : (stop : Stop) (a : Result ℕ Stop) → r ≡ Err stop → a ≡ Err stop → Filed work text before before a
+    refused stop a e is = filed before a (subst (λ x. Made x (highest z) (clauses d.script) before before a) (sym e) (is, refl))
 
     module _ (top count h n : ℕ) (middle after lines : List ℕ) where
       text_is : take v.used v.area.now ≡ flat_map line (clauses d.script)

@@ -2,9 +2,9 @@
 use Rattle.std.proofs.Common.{◌≡◌, ℕ, List, [], ◌∷◌, Ok, Err, Result, sym, refl, ap, ◌∙◌, subst, MutBor}
 use Rattle.cnf.specs.Sinks.{Model}
 use Rattle.cnf.specs.Layers.{lent_model}
-use Rattle.job.specs.declared.call.Call.{Call}
+use Rattle.calls.specs.declared.Call.{Call}
 use Rattle.frames.specs.declared.refusals.Refusal.{Refusal as LineRefusal}
-use Rattle.calls.specs.Lines.{calling}
+use Rattle.frames.specs.Script.{calling}
 use Rattle.job.specs.declared.job.Job.{Job}
 use Rattle.job.specs.Calls.{State, fresh}
 use Rattle.job.specs.Steps.{known}
@@ -47,8 +47,7 @@ module _ {S' S : Type 0} {m' : Model S'} {m : Model S} {f : S' → S} (v : View 
       })
 
 -- the owner of a lent sink, whose sink after is the lent one if the names are one
-pub lent_script : {S : Type 0} (m : Model S) (s t : MutBor S) (text : List ℕ) (r : Result (Unit {0}) Stop) (y z : State) → DroveScript (lent_model m) s text r t y → z ≡ y → (after : S) → (s.ghost_name ≡ t.ghost_name → after ≡ t.now) → DroveScript m s.now text r after z
-lent_script m s t text r y z d e after tie =
+pub lent_script : {S : Type 0} (m : Model S) (s t : MutBor S) (text : List ℕ) (r : Result (Unit {0}) Stop) (z : State) → DroveScript (lent_model m) s text r t z → (after : S) → (s.ghost_name ≡ t.ghost_name → after ≡ t.now) → DroveScript m s.now text r after z
+lent_script m s t text r z d after tie =
     let same = chain_keeps (lent_model m) (λ x. x.ghost_name) (λ _ _ _ h. h.1) _ s t d.promise.taken.steps in
-    subst (λ u. DroveScript m s.now text r u z) (sym (tie (sym same)))
-    (subst (λ x. DroveScript m s.now text r t.now x) (sym e) (script_view (lent_view m) s text r t y d))
+    subst (λ u. DroveScript m s.now text r u z) (sym (tie (sym same))) (script_view (lent_view m) s text r t z d)

@@ -4,10 +4,10 @@ use Rattle.std.proofs.lemmas.List.{append-nil}
 use Rattle.std.proofs.lemmas.Bool.{true≢false}
 use Rattle.std.specs.List.{AllByRecursion}
 use Rattle.cnf.specs.Sinks.{Model}
-use Rattle.job.specs.declared.call.Call.{Call}
+use Rattle.calls.specs.declared.Call.{Call}
 use Rattle.text.specs.Split.{lines}
 use Rattle.frames.specs.declared.refusals.Refusal.{Refusal as LineRefusal}
-use Rattle.calls.specs.Lines.{calling, written_call}
+use Rattle.frames.specs.Script.{calling, written_call}
 use Rattle.job.specs.Calls.{State, Answer, fresh}
 use Rattle.job.specs.Runs.{Ran, none, more}
 use Rattle.script.specs.Scripts.{Ended, ScriptRan}

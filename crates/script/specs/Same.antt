@@ -1,7 +1,7 @@
 -- A script that is accepted whole has one list of calls, whatever the sink.
 use Rattle.std.specs.Prelude.{◌≡◌, ℕ, List, [], ◌∷◌, Ok}
 use Rattle.cnf.specs.Sinks.{Model}
-use Rattle.job.specs.declared.call.Call.{Call}
+use Rattle.calls.specs.declared.Call.{Call}
 use Rattle.job.specs.Calls.{State, fresh, after}
 use Rattle.script.specs.Scripts.{ScriptRan}
 

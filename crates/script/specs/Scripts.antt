@@ -3,10 +3,10 @@ use Rattle.std.specs.Prelude.{◌≡◌, ℕ, ◌+◌, true, List, [], ◌∷◌
 use Rattle.std.specs.List.{AllByRecursion}
 use Rattle.cnf.specs.Clauses.{Clauses}
 use Rattle.cnf.specs.Sinks.{Model}
-use Rattle.job.specs.declared.call.Call.{Call}
+use Rattle.calls.specs.declared.Call.{Call}
 use Rattle.text.specs.Split.{lines}
 use Rattle.frames.specs.declared.refusals.Refusal.{Refusal as LineRefusal}
-use Rattle.calls.specs.Lines.{calling, written_call}
+use Rattle.frames.specs.Script.{calling, written_call}
 use Rattle.job.specs.declared.call.Reply.{Reply}
 use Rattle.job.specs.declared.job.Job.{Job}
 use Rattle.job.specs.Calls.{State, Answer, fresh, answer_to}

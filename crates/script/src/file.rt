@@ -16,7 +16,7 @@ pub const MOST_SCRIPT: u64 = 1471;
 pub const WORK_BYTES: usize = 60000;
 
 // The bytes of the output: those of the lines, and room for the heading.
-pub const FILE_BYTES: usize = 60020;
+pub const FILE_BYTES: usize = WORK_BYTES + 20;
 
 // Makes the whole file of a script at the front of the output, and gives its length; a refused script leaves the output as it was.
 pub fn make_file(
@@ -25,16 +25,12 @@ pub fn make_file(
     output: &mut [u8; FILE_BYTES],
 ) -> Result<usize, Stop>
     ensures filed { Filed work.old script.now output.old output.new result }
-    ensures fits { IfOk result (λ n. n ≤ 60020) }
+    ensures fits { IfOk result (λ n. n ≤ FILE_BYTES) }
 {
     let mut writer = Writer::new(work);
     let outcome = drive_script_lent(&mut writer, script);
-    match outcome.result {
-        Err(stop) => Err(stop),
-        Ok(()) => {
-            let highest = outcome.setup.highest();
-            let lines = put_pair(output, b"p cnf ", highest as u64, writer.count() as u64);
-            Ok(put_bytes(output, lines, writer.text()))
-        }
-    }
+    outcome.result?;
+    let highest = u64::from(outcome.setup.highest());
+    let heading = put_pair(output, b"p cnf ", highest, writer.count() as u64);
+    Ok(put_bytes(output, heading, writer.text()))
 }

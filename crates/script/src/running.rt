@@ -4,40 +4,30 @@ ghost use Rattle.job.specs.Steps.{known};
 ghost use Rattle.script.specs.Scripts.{LinePerformed, ScriptRan, DroveScript};
 
 use crate::refusal::{Refusal, Stop};
-use calls::lines::call_of;
 use cnf::sink::Sink;
+use frames::scripts::call_of;
 use job::job::Job;
 use job::state::Setup;
-use text::splitting::split_line;
+use text::lines::Lines;
 
 // Performs the call of one line.
 pub fn perform_line<S: Sink>(job: &mut Job<S>, line: &[u8]) -> Result<(), Refusal>
     ensures { LinePerformed S.Sink.model job.old line.now result job.new }
 {
-    match call_of(line) {
-        Err(refusal) => Err(Refusal::Line(refusal)),
-        Ok(call) => match job.perform(call) {
-            Err(refusal) => Err(Refusal::Call(refusal)),
-            Ok(_) => Ok(()),
-        },
-    }
+    let call = call_of(line)?;
+    job.perform(call)?;
+    Ok(())
 }
 
 // Performs the lines in order, up to the first that is refused.
 pub fn perform_script<S: Sink>(job: &mut Job<S>, script: &[u8]) -> Result<(), Stop>
     ensures { ScriptRan S.Sink.model job.old.sink (known job.old) script.now result job.new.sink (known job.new) }
 {
-    let mut left = script;
-    let mut accepted = 0;
-    while let Some((line, rest)) = split_line(left) {
-        if let Err(refusal) = perform_line(job, line) {
-            return Err(Stop {
-                refusal,
-                line: accepted + 1,
-            });
-        }
-        accepted += 1;
-        left = rest;
+    for (i, line) in Lines::of(script).enumerate() {
+        perform_line(job, line).map_err(|refusal| Stop {
+            refusal,
+            line: i + 1,
+        })?;
     }
     Ok(())
 }
@@ -63,8 +53,6 @@ pub fn drive_script<S: Sink>(sink: S, script: &[u8]) -> (S, Outcome)
 pub fn drive_script_lent<S: Sink>(sink: &mut S, script: &[u8]) -> Outcome
     ensures { DroveScript S.Sink.model sink.old script.now result.result sink.new (state_of result.setup) }
 {
-    let mut job = Job::new(sink);
-    let result = perform_script(&mut job, script);
-    let setup = *job.setup();
-    Outcome { setup, result }
+    let (_, outcome) = drive_script(sink, script);
+    outcome
 }

@@ -5,22 +5,16 @@ ghost use Rattle.script.specs.Same.{SameScript};
 use cnf::sink::Sink;
 
 // What comes of the first 1,471 bytes of a text as a script, over any sink, is what comes of the text.
-pub fn script_cut<S: Sink>() -> u8
+pub fn script_cut<S: Sink>()
     ensures { ScriptCut S.Sink.model }
-{
-    0
-}
+{}
 
 // And so is the file that is made of them.
-pub fn file_cut() -> u8
+pub fn file_cut()
     ensures { FileCut }
-{
-    0
-}
+{}
 
 // A script that is accepted whole over two sinks is the same calls over both, and the job knows the same in the end.
-pub fn same_script<S: Sink, T: Sink>() -> u8
+pub fn same_script<S: Sink, T: Sink>()
     ensures { SameScript S.Sink.model T.Sink.model }
-{
-    0
-}
+{}

@@ -2,8 +2,8 @@
 ghost use Rattle.std.specs.Prelude.{◌≡◌, replicate};
 
 use crate::showing::show;
-use calls::lines::write_call;
 use calls::{beginning, defining};
+use frames::scripts::write_call;
 use job::call::Call;
 
 // An assignment that makes every variable true.

@@ -7,13 +7,7 @@ const MARK: u8 = 7;
 
 // How many bytes are not the mark.
 fn changed(output: &[u8]) -> usize {
-    let mut n = 0usize;
-    for b in output {
-        if *b != MARK {
-            n = n.saturating_add(1);
-        }
-    }
-    n
+    output.iter().filter(|byte| **byte != MARK).count()
 }
 
 // Makes the file of a script, and prints its length and its first line, or the refusal and how many bytes of the output it changed.
@@ -35,10 +29,8 @@ pub fn show(rt: &HostRuntime, name: &str, script: &[u8]) -> anyhow::Result<()> {
 
 // The first line, with its line feed.
 fn first_line(file: &[u8]) -> &[u8] {
-    for (i, b) in file.iter().enumerate() {
-        if *b == b'\n' {
-            return &file[0..i + 1];
-        }
+    match file.iter().position(|byte| *byte == b'\n') {
+        Some(feed) => &file[..feed + 1],
+        None => file,
     }
-    file
 }

@@ -18,16 +18,7 @@ use std::io::Write;
 fn answer_number(answer: Result<(), Refusal>) -> u32
     ensures { result ≡ answer_number answer }
 {
-    match answer {
-        Ok(()) => 0,
-        Err(refusal) => refusal.number(),
-    }
-}
-
-fn literal(variable: u32, positive: bool) -> Literal
-    ensures { result ≡ record { variable = variable; positive = positive } }
-{
-    Literal { variable, positive }
+    answer.err().map_or(0, |refusal| refusal.number())
 }
 
 // Takes one clause into an empty writer over `area`, and prints the answer and the text.
@@ -46,49 +37,55 @@ fn show_writer(
 }
 
 fn show_lengths(rt: &HostRuntime) -> io::Result<()> {
-    let mut area = [0u8; 400];
-    let clause = [literal(9999, false); 41];
-    show_writer(rt, "no literal", &mut area, &clause[0..0])?;
-    show_writer(rt, "one literal", &mut area, &clause[0..1])?;
-    show_writer(rt, "forty literals", &mut area, &clause[0..40])?;
-    show_writer(rt, "forty-one literals", &mut area, &clause)
+    let clause = [Literal::negated(9999); 41];
+    let cases: [(&str, &[Literal]); 4] = [
+        ("no literal", &[]),
+        ("one literal", &clause[0..1]),
+        ("forty literals", &clause[0..40]),
+        ("forty-one literals", &clause),
+    ];
+    for (name, clause) in cases {
+        show_writer(rt, name, &mut [0; 400], clause)?;
+    }
+    Ok(())
 }
 
 fn show_variables(rt: &HostRuntime) -> io::Result<()> {
-    let mut area = [0u8; 400];
-    show_writer(rt, "variable 0", &mut area, &[literal(0, true)])?;
-    show_writer(rt, "variable 9999", &mut area, &[literal(9999, true)])?;
-    show_writer(rt, "variable 10000", &mut area, &[literal(10000, true)])?;
-    show_writer(
-        rt,
-        "the largest variable",
-        &mut area,
-        &[literal(u32::MAX, false)],
-    )?;
-    show_writer(
-        rt,
-        "a good and a bad variable",
-        &mut area,
-        &[literal(1, true), literal(0, true)],
-    )
+    let cases: [(&str, &[Literal]); 5] = [
+        ("variable 0", &[Literal::asserted(0)]),
+        ("variable 9999", &[Literal::asserted(9999)]),
+        ("variable 10000", &[Literal::asserted(10000)]),
+        ("the largest variable", &[Literal::negated(u32::MAX)]),
+        (
+            "a good and a bad variable",
+            &[Literal::asserted(1), Literal::asserted(0)],
+        ),
+    ];
+    for (name, clause) in cases {
+        show_writer(rt, name, &mut [0; 400], clause)?;
+    }
+    Ok(())
 }
 
 fn show_free_bytes(rt: &HostRuntime) -> io::Result<()> {
-    show_writer(rt, "no byte", &mut [], &[literal(1, true)])?;
-    show_writer(rt, "11 bytes", &mut [0u8; 11], &[literal(1, true)])?;
-    show_writer(rt, "12 bytes", &mut [0u8; 12], &[literal(1, true)])?;
-    show_writer(
-        rt,
-        "12 bytes, two literals",
-        &mut [0u8; 12],
-        &[literal(1, true), literal(2, true)],
-    )
+    let clause = [Literal::asserted(1), Literal::asserted(2)];
+    let cases: [(&str, usize, &[Literal]); 4] = [
+        ("no byte", 0, &clause[0..1]),
+        ("11 bytes", 11, &clause[0..1]),
+        ("12 bytes", 12, &clause[0..1]),
+        ("12 bytes, two literals", 12, &clause),
+    ];
+    for (name, bytes, clause) in cases {
+        let mut area = vec![in rt.alloc(); 0u8; bytes]?;
+        show_writer(rt, name, area.as_mut_slice(), clause)?;
+    }
+    Ok(())
 }
 
 // The clause 5 -6 through the switch 9, and a clause through switches that are no variables.
 fn show_switches(rt: &HostRuntime) -> io::Result<()> {
     let mut area = [b'.'; 40];
-    let clause = [literal(5, true), literal(6, false)];
+    let clause = [Literal::asserted(5), Literal::negated(6)];
     match write_switched(&mut area, 9, &clause) {
         Ok(n) => println!(rt; "switch 9: {n} bytes")?,
         Err(refusal) => println!(rt; "switch 9: {}", refusal.number())?,
@@ -107,9 +104,9 @@ fn show_pile(rt: &HostRuntime) -> io::Result<()> {
     let mut pile = Switch::new(Switch::new(Judge::new(&[1, 1, 0]), 1), 2);
     let longest = pile.longest_clause();
     let free = pile.free_cells();
-    let first = answer_number(pile.take(&[literal(3, false)]));
-    let second = answer_number(pile.take(&[literal(3, true)]));
-    let third = answer_number(pile.take(&[literal(4, true)]));
+    let first = answer_number(pile.take(&[Literal::negated(3)]));
+    let second = answer_number(pile.take(&[Literal::asserted(3)]));
+    let third = answer_number(pile.take(&[Literal::asserted(4)]));
     let fault = pile.below.below.first_false();
     println!(rt;
         "pile: longest {longest}, {free} cells, answers {first} {second} {third}, first false {fault}"
@@ -120,10 +117,10 @@ fn show_pile(rt: &HostRuntime) -> io::Result<()> {
 fn show_judge(rt: &HostRuntime) -> io::Result<()> {
     let mut judge = Judge::new(&[1, 2, 0]);
     let highest = judge.highest_variable();
-    let _ = judge.take(&[literal(1, true)]);
+    let _ = judge.take(&[Literal::asserted(1)]);
     let before = judge.first_false();
-    let _ = judge.take(&[literal(2, true), literal(3, true)]);
-    let _ = judge.take(&[literal(1, false)]);
+    let _ = judge.take(&[Literal::asserted(2), Literal::asserted(3)]);
+    let _ = judge.take(&[Literal::negated(1)]);
     let after = judge.first_false();
     let count = judge.count();
     let free = judge.free_cells();
@@ -136,8 +133,8 @@ fn show_long_judge(rt: &HostRuntime) -> io::Result<()> {
     let state = [1u8; 10001];
     let mut judge = Judge::new(&state);
     let highest = judge.highest_variable();
-    let last = answer_number(judge.take(&[literal(9999, true)]));
-    let past = answer_number(judge.take(&[literal(10000, true)]));
+    let last = answer_number(judge.take(&[Literal::asserted(9999)]));
+    let past = answer_number(judge.take(&[Literal::asserted(10000)]));
     let count = judge.count();
     println!(rt; "long judge: highest {highest}, answers {last} {past}, {count} clauses")
 }

@@ -1,7 +1,6 @@
 -- What a judge's area says of a clause, and of the first false clause.
-use Rattle.std.proofs.Common.{◌≡◌, ℕ, ◌<◌, Bool, true, false, cond, not, ◌&&◌, ◌||◌, eqb, List, [], ◌∷◌, refl, ap, ◌∙◌, arith}
+use Rattle.std.proofs.Common.{◌≡◌, ℕ, Bool, true, false, cond, not, ◌&&◌, ◌||◌, List, [], ◌∷◌, Some, None, Option, is_none, refl, ap, ◌∙◌}
 use Rattle.std.proofs.lemmas.Bool.{and_parts, leb-true}
-use Rattle.std.proofs.lemmas.Bool.Decides.{nat_tests}
 use Rattle.cnf.specs.Clauses.{Assignment, Clause, truth, sat, within, in_range}
 use Rattle.sinks.specs.Models.{Agrees, assigned, first_fault}
 
@@ -15,6 +14,7 @@ sat_agrees area h α agrees (l ∷ ls) ok =
     ap (λ b. cond l.positive b (not b) || sat α ls) same ∙ ap (λ b. truth (assigned area) l || b) (sat_agrees area h α agrees ls both.1)
 
 -- the assignment stays in just if it was in and the clause is true
-pub fault_in : (fault number : ℕ) (b : Bool) → 0 < number → eqb (first_fault fault number b) 0 ≡ (eqb fault 0 && b)
-fault_in fault number true pos = grind (arith, nat_tests)
-fault_in fault number false pos = grind (arith, nat_tests)
+pub fault_in : (fault : Option ℕ) (number : ℕ) (b : Bool) → is_none (first_fault fault number b) ≡ (is_none fault && b)
+fault_in None number true = refl
+fault_in None number false = refl
+fault_in (Some n) number b = refl

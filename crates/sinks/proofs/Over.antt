@@ -1,8 +1,8 @@
 -- Laws of writing over an area, and how long a line is.
-use Rattle.std.proofs.Common.{◌≡◌, ℕ, zero, suc, ◌+◌, ◌*◌, ◌/◌, ◌^◌, ◌<◌, ◌≤◌, Bool, true, false, leb, List, [], ◌∷◌, ◌++◌, length, get_or, take, drop, set, decimal, sym, ap, ◌∙◌, append_assoc, add-zero, add-one, arith, length-append, length-drop, rules}
+use Rattle.std.proofs.Common.{◌≡◌, ℕ, zero, suc, ◌+◌, ◌*◌, ◌^◌, ◌<◌, ◌≤◌, Bool, true, false, leb, List, [], ◌∷◌, ◌++◌, length, get_or, take, drop, set, decimal, sym, ap, ◌∙◌, append_assoc, add-zero, add-one, arith, length-append, length-drop, rules}
 use Rattle.std.proofs.lemmas.List.{take_at, drop_at, drop-drop, set_split, length-take-le, take-append-drop, take_more}
 use Rattle.std.proofs.lemmas.Bool.{and_parts, leb-true}
-use Rattle.std.proofs.lemmas.Fmt.{decimal_step, length-decimal-le, decimal_nonempty, first_decimal, digits_decimal, digits_value-decimal, decimal-digits_value, decimal_digit}
+use Rattle.std.proofs.lemmas.Fmt.{length-decimal-le, decimal_nonempty, first_decimal, digits_decimal, digits_value-decimal, decimal-digits_value, decimal_digit}
 use Rattle.std.proofs.lemmas.Str.Parse.{IsNumeralModel, numerals_by_fold}
 use Rattle.std.specs.List.{flat_map}
 use Rattle.std.specs.Str.{all_ascii_digits}
@@ -43,14 +43,6 @@ over-set s a b h = set_split s a b h ∙ ap (λ m. take a s ++ (b ∷ drop m s))
 pub over_next : (s s₁ s₂ : List ℕ) (a b : ℕ) (xs ys : List ℕ) → a ≤ length s → s₁ ≡ over s a xs → b ≡ a + length xs → s₂ ≡ over s₁ b ys → s₂ ≡ over s a (xs ++ ys)
 over_next s s₁ s₂ a b xs ys h e₁ e e₂ = e₂ ∙ ap (λ u. over u b ys) e₁ ∙ over-over s a xs h ys b e
 
--- one byte more of bs
-pub place_more : (s s₁ : List ℕ) (a i : ℕ) (bs : List ℕ) → i < length bs → a + length bs ≤ length s → s₁ ≡ over s a (take i bs) → set s₁ (a + i) (get_or bs i 0) ≡ over s a (take (i + 1) bs)
-place_more s s₁ a i bs lt fits e =
-    let part : length (take i bs) ≡ i = length-take-le i bs (omega arith) in
-    let long : length s₁ ≡ length s = ap length e ∙ length_over s a (take i bs) (omega arith) (omega arith) in
-    over_next s s₁ _ a (a + i) (take i bs) (get_or bs i 0 ∷ []) (omega arith) e (omega arith) (over-set s₁ (a + i) (get_or bs i 0) (omega arith))
-    ∙ ap (over s a) (sym (take_more bs i 0 lt))
-
 -- the digits of a number are those that `decimal` gives
 own : IsNumeralModel (λ ds. all_ascii_digits ds ≡ true) (said 0)
 own = numerals_by_fold _ (search rules) said (search rules)
@@ -76,9 +68,6 @@ module _ {n a e : ℕ} {s t : List ℕ} (h : n < 2 ^ 64) (w : WroteNumeral n a s
 
   pub numeral_end : e ≡ a + length (decimal n)
   numeral_end = w.end ∙ ap (λ ds. a + length ds) (numeral_is n w.ds h w.numeral)
-
-pub decimal_longer : (n : ℕ) → 10 ≤ n → n < 2 ^ 64 → length (decimal n) ≡ length (decimal (n / 10)) + 1
-decimal_longer n h k = ap length (decimal_step n h k) ∙ length-append (decimal (n / 10)) _
 
 -- how long a line is
 pub literal_long : (l : Literal) → length (literal_text l) ≡ length (sign l.positive) + (length (decimal l.variable) + 1)
@@ -112,9 +101,6 @@ pair_long word a b =
 module _ (c : Clause) (i : ℕ) (d : Literal) (h : i < length c) where
   pub texts_more : flat_map literal_text (take (i + 1) c) ≡ flat_map literal_text (take i c) ++ literal_text (get_or c i d)
   texts_more = ap (flat_map literal_text) (take_more c i d h) ∙ joined_push literal_text (take i c) (get_or c i d)
-
-  pub length_texts_more : length (flat_map literal_text (take (i + 1) c)) ≡ length (flat_map literal_text (take i c)) + length (literal_text (get_or c i d))
-  length_texts_more = ap length texts_more ∙ length-append (flat_map literal_text (take i c)) _
 
 pub texts_part : (c : Clause) (n : ℕ) → length (flat_map literal_text (take n c)) ≤ length (flat_map literal_text c)
 texts_part c n =

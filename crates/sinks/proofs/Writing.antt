@@ -1,6 +1,6 @@
 -- What one more line does to a writer's area.
-use Rattle.std.proofs.Common.{◌≡◌, ℕ, ◌+◌, ◌-◌, ◌≤◌, Bool, true, false, ◌&&◌, List, [], ◌∷◌, ◌++◌, length, take, set, Some, None, Ok, Option, sym, refl, ap, ◌∙◌, arith}
-use Rattle.std.proofs.lemmas.List.{take-set-le, length-set, length_push}
+use Rattle.std.proofs.Common.{◌≡◌, ℕ, ◌+◌, ◌≤◌, Bool, true, false, ◌&&◌, List, [], ◌∷◌, ◌++◌, length, take, Some, None, Ok, Option, sym, refl, ap, ◌∙◌, arith}
+use Rattle.std.proofs.lemmas.List.{length_push}
 use Rattle.std.proofs.lemmas.Bool.{and_parts, and_from, eq-eqb, eqb-true, false≢true}
 use Rattle.cnf.specs.Clauses.{Assignment, Clause, Clauses, sat, sat_all, in_range, all_in_range}
 use Rattle.cnf.specs.Refusals.{verdict}
@@ -46,11 +46,6 @@ read_next text cs c e ok =
     let (is, ranged) = (lines_exact text cs).0 e in
     ap (λ t. read (t ++ line c)) is ∙ ap read (sym (joined_push line cs c)) ∙ read-lines (cs ++ (c ∷ [])) (all_in_range_push 9999 cs c ranged ok)
 
--- a byte behind the lines leaves them
-pub written-kept : (s : List ℕ) (used taken i b : ℕ) → used ≤ i → Written s used taken → Written (set s i b) used taken
-written-kept s used taken i b h old =
-    (omega (arith, length-set s i b), old.1, old.2, ap (λ t. has_clauses taken (read t)) (take-set-le used s i b h) ∙ old.3)
-
 module _ (s s₁ : List ℕ) (used used₁ taken : ℕ) (c : Clause) (old : Written s used taken) (ok : in_range 9999 c ≡ true) (e : s₁ ≡ over s used (line c)) (e₁ : used₁ ≡ used + length (line c)) where
   text_next : take used₁ s₁ ≡ take used s ++ line c
   text_next = ap (take used₁) e ∙ take-over s used (line c) old.0 used₁ e₁
@@ -72,19 +67,14 @@ module _ (s s₁ : List ℕ) (used used₁ taken : ℕ) (c : Clause) (old : Writ
 
 -- what the writer needs of a clause that it does not refuse
 pub record Roomy (len used : ℕ) (c : Clause) : Type 0 where
-  pub buffered : length (line c) ≤ 242
   pub held : used + length (line c) ≤ len
   pub few : used + length (line c) ≤ 16777216
   pub ranged : in_range 9999 c ≡ true
   pub left : writer_cells len used ≤ writer_cells len (used + length (line c)) + (length c + 1)
 
-pub roomy : (len used cells : ℕ) (c : Clause) → cells ≡ writer_cells len used → Ok tt ≡ verdict 40 9999 cells c → Roomy len used c
-roomy len used cells c e v =
-    let a = accepted 40 9999 cells c (sym v) in
+pub roomy : (len used : ℕ) (c : Clause) → verdict 40 9999 (writer_cells len used) c ≡ Ok tt → Roomy len used c
+roomy len used c v =
+    let a = accepted 40 9999 (writer_cells len used) c v in
     let l = line-length c in
     let m = literals-length c a.ranged in
-    record { buffered = omega arith; held = omega arith; few = omega arith; ranged = a.ranged; left = omega arith }
-
--- what was written at the front of a buffer
-pub front_is : (b b₁ : List ℕ) (n : ℕ) (xs : List ℕ) → b₁ ≡ over b 0 xs → n ≡ 0 + length xs → take (n - 0) b₁ ≡ xs
-front_is b b₁ n xs e e₁ = ap (take (n - 0)) e ∙ take-over b 0 xs (omega arith) (n - 0) (omega arith)
+    record { held = omega arith; few = omega arith; ranged = a.ranged; left = omega arith }

@@ -1,5 +1,6 @@
 -- What the writer and the judge mean.
-use Rattle.std.specs.Prelude.{◌≡◌, ℕ, ◌+◌, ◌-◌, ◌≤◌, min, Bool, true, cond, not, ◌&&◌, List, length, take, ◌==◌, slice_index}
+use Rattle.std.specs.Prelude.{◌≡◌, ℕ, ◌+◌, ◌-◌, ◌≤◌, min, Bool, true, cond, Some, None, Option, List, length, take, ◌==◌, slice_index}
+use Rattle.std.specs.Option.{is_none, option_or}
 use Rattle.std.proofs.Common.{lit≤}
 use Rattle.cnf.specs.Clauses.{Assignment, Clause, sat, in_range}
 use Rattle.cnf.specs.Sinks.{Model}
@@ -45,8 +46,8 @@ abbrev pub Agrees : List ℕ → ℕ → Assignment → Type 0
 Agrees area highest α = (v : ℕ) → 1 ≤ v → v ≤ highest → α v ≡ assigned area v
 
 -- the number of the first false clause, after one more clause
-abbrev pub first_fault : ℕ → ℕ → Bool → ℕ
-first_fault fault number satisfied = cond (fault == 0 && not satisfied) number fault
+abbrev pub first_fault : Option ℕ → ℕ → Bool → Option ℕ
+first_fault fault number satisfied = option_or fault (cond satisfied None (Some number))
 
 -- A judge watches the assignment of its area, which is in while no clause was false.
 abbrev pub judge_highest : Judge → ℕ
@@ -67,7 +68,7 @@ judge_model = record {
   count = λ j. j.taken;
   watched = λ j α. Agrees j.area.now (judge_highest j) α;
   gives = λ j α. α;
-  inside = λ j α. (j.fault == 0);
+  inside = λ j α. is_none j.fault;
   takes = λ j c k. Judged c j k;
   short = λ j. lit≤ tt;
 }
@@ -77,4 +78,4 @@ pub record NewJudge (area : List ℕ) (j : Judge) : Type 0 where
   pub bytes : j.area.now ≡ area
   pub cells : j.cells ≡ 16777216
   pub no_clause : j.taken ≡ 0
-  pub no_fault : j.fault ≡ 0
+  pub no_fault : j.fault ≡ None

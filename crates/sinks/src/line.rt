@@ -1,9 +1,10 @@
 // Writes bytes, numbers and the line of a clause, each at an index of an area.
 ghost use Rattle.std.specs.Prelude.{◌≡◌, ◌+◌, ◌<◌, ◌≤◌, [], ◌∷◌, length, decimal};
-ghost use Rattle.std.specs.List.{flat_map};
-ghost use Rattle.sinks.specs.Lines.{over, sign, literal_text, line, pair_line, WroteNumeral};
+ghost use Rattle.sinks.specs.Lines.{over, line, pair_line, WroteNumeral};
 
+use crate::pen::Pen;
 use cnf::clause::Literal;
+use itoa::Buffer;
 
 // Writes a byte at `at`, and gives the index past it.
 pub fn put(area: &mut [u8], at: usize, byte: u8) -> usize
@@ -21,10 +22,9 @@ pub fn put_bytes(area: &mut [u8], at: usize, bytes: &[u8]) -> usize
     ensures area { area.new ≡ over area.old at bytes.now }
     ensures end { result ≡ at + length bytes.now }
 {
-    for i in 0..bytes.len() {
-        area[at + i] = bytes[i];
-    }
-    at + bytes.len()
+    let end = at + bytes.len();
+    area[at..end].copy_from_slice(bytes);
+    end
 }
 
 // Writes the decimal digits of a number.
@@ -32,11 +32,8 @@ pub fn put_number(area: &mut [u8], at: usize, number: u64) -> usize
     requires { at + length (decimal number) ≤ length area.old }
     ensures { WroteNumeral number at area.old area.new result }
 {
-    if number < 10 {
-        return put(area, at, b'0' + number as u8);
-    }
-    let next = put_number(area, at, number / 10);
-    put(area, next, b'0' + (number % 10) as u8)
+    let mut digits = Buffer::new();
+    put_bytes(area, at, digits.format(number).as_bytes())
 }
 
 // Writes a word, two numbers with a blank between them, and a line feed.
@@ -52,47 +49,13 @@ pub fn put_pair(area: &mut [u8], word: &[u8], first: u64, second: u64) -> usize
     put(area, feed, b'\n')
 }
 
-// Writes the minus sign of a negative literal.
-fn put_sign(area: &mut [u8], at: usize, positive: bool) -> usize
-    requires { at < length area.old }
-    ensures area { area.new ≡ over area.old at (sign positive) }
-    ensures end { result ≡ at + length (sign positive) }
-{
-    if positive {
-        return at;
-    }
-    put(area, at, b'-')
-}
-
-fn put_literal(area: &mut [u8], at: usize, literal: Literal) -> usize
-    requires { at + length (literal_text literal) ≤ length area.old }
-    ensures area { area.new ≡ over area.old at (literal_text literal) }
-    ensures end { result ≡ at + length (literal_text literal) }
-{
-    let number = put_sign(area, at, literal.positive);
-    let blank = put_number(area, number, literal.variable as u64);
-    put(area, blank, b' ')
-}
-
-fn put_literals(area: &mut [u8], at: usize, clause: &[Literal]) -> usize
-    requires { at + length (flat_map literal_text clause.now) ≤ length area.old }
-    ensures area { area.new ≡ over area.old at (flat_map literal_text clause.now) }
-    ensures end { result ≡ at + length (flat_map literal_text clause.now) }
-{
-    let mut next = at;
-    for literal in clause {
-        next = put_literal(area, next, *literal);
-    }
-    next
-}
-
 // Writes the line of a clause at `at`, and gives the index past it.
 pub(crate) fn put_line(area: &mut [u8], at: usize, clause: &[Literal]) -> usize
     requires { at + length (line clause.now) ≤ length area.old }
     ensures area { area.new ≡ over area.old at (line clause.now) }
     ensures end { result ≡ at + length (line clause.now) }
 {
-    let zero = put_literals(area, at, clause);
-    let feed = put(area, zero, b'0');
-    put(area, feed, b'\n')
+    let mut pen = Pen { area, at };
+    pen.line(clause);
+    pen.at
 }

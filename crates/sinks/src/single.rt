@@ -12,8 +12,6 @@ pub fn write_switched(area: &mut [u8], variable: u32, clause: &[Literal]) -> Res
     ensures { MatchResult result (λ n. WroteOne variable clause.now area.old area.new n) (λ e. (one_answer variable clause.now area.old ≡ Err e) × (area.new ≡ area.old)) }
 {
     let mut writer = Writer::new(area);
-    match take_switched(&mut writer, variable, clause) {
-        Ok(()) => Ok(writer.text().len()),
-        Err(refusal) => Err(refusal),
-    }
+    take_switched(&mut writer, variable, clause)?;
+    Ok(writer.text().len())
 }

@@ -1,15 +1,19 @@
 -- Proof of the laws of lines and of words.
-use Rattle.std.proofs.Common.{◌≡◌, ℕ, ◌<◌, Bool, true, false, cond, eqb, List, [], ◌∷◌, ◌++◌, length, sym, refl, ap, ◌∙◌, subst, inl, inr, ⊎_elim, append_assoc, arith}
+use Rattle.std.proofs.Common.{◌≡◌, ℕ, ◌<◌, Bool, true, false, cond, eqb, List, [], ◌∷◌, ◌++◌, length, sym, refl, ap, ◌∙◌, subst, inl, inr, ⊎_elim, append_assoc, append-nil, arith}
 use Rattle.std.specs.List.{AllByRecursion}
 use Rattle.std.proofs.lemmas.Bool.{cond-true, cond-false, eqb-true, eqb-false}
 use Rattle.text.specs.Split.{start, lines, words}
 use Rattle.text.specs.Laws.{Free, last, page, MadeOf, ended, LinesLaw, blank_before, WordsLaw}
-use Rattle.text.proofs.Splits.{other, Splits}
+use Rattle.text.proofs.Splits.{lines-front, words-front, whole_word}
 
 -- a character that is not s joins the first piece
 free_start : (s b : ℕ) (ls : List (List ℕ)) → (b ≡ s → ⊥) → AllByRecursion (Free s) ls → AllByRecursion (Free s) (start b ls)
 free_start s b [] n a = ((n, tt), tt)
 free_start s b (l ∷ ls) n a = ((n, a.0), a.1)
+
+-- pieces is split at s
+abbrev Splits : ℕ → (List ℕ → List (List ℕ)) → Type 0
+Splits s pieces = (b : ℕ) (bs : List ℕ) → pieces (b ∷ bs) ≡ cond (eqb b s) ([] ∷ pieces bs) (start b (pieces bs))
 
 -- the pieces between the marks s have no s
 module _ (s : ℕ) (pieces : List ℕ → List (List ℕ)) (by : Splits s pieces) (none : AllByRecursion (Free s) (pieces [])) where
@@ -21,17 +25,7 @@ module _ (s : ℕ) (pieces : List ℕ → List (List ℕ)) (by : Splits s pieces
       at true e a = subst (AllByRecursion (Free s)) (sym (by b bs ∙ cond-true (eqb b s) ([] ∷ pieces bs) (start b (pieces bs)) e)) (tt, a)
       at false e a = subst (AllByRecursion (Free s)) (sym (by b bs ∙ cond-false (eqb b s) ([] ∷ pieces bs) (start b (pieces bs)) e)) (free_start s b (pieces bs) (eqb-false b s e) a)
 
-lines_other : (b : ℕ) (bs : List ℕ) → (b ≡ 10 → ⊥) → lines (b ∷ bs) ≡ start b (lines bs)
-lines_other = other 10 lines (λ b bs. refl)
-
-words_other : (b : ℕ) (bs : List ℕ) → (b ≡ 32 → ⊥) → words (b ∷ bs) ≡ start b (words bs)
-words_other = other 32 words (λ b bs. refl)
-
 -- lines that each end with a line feed
-lines-front : (l t : List ℕ) → Free 10 l → lines (l ++ 10 ∷ t) ≡ l ∷ lines t
-lines-front [] t f = refl
-lines-front (b ∷ bs) t f = lines_other b (bs ++ 10 ∷ t) f.0 ∙ ap (start b) (lines-front bs t f.1)
-
 lines-page : (ls : List (List ℕ)) → AllByRecursion (Free 10) ls → lines (page ls) ≡ ls
 lines-page [] f = refl
 lines-page (l ∷ ls) f = ap lines (append_assoc l (10 ∷ []) (page ls)) ∙ lines-front l (page ls) f.0 ∙ ap (λ x. l ∷ x) (lines-page ls f.1)
@@ -103,9 +97,8 @@ lines_law = record { free = pieces_free 10 lines (λ b bs. refl) tt; made = made
 
 -- words
 words_only : (w : List ℕ) (ws : List (List ℕ)) → AllByRecursion (Free 32) (w ∷ ws) → words (w ++ blank_before ws) ≡ w ∷ ws
-words_only [] [] f = refl
-words_only [] (v ∷ ws) f = ap (λ x. [] ∷ x) (words_only v ws f.1)
-words_only (b ∷ bs) ws f = words_other b (bs ++ blank_before ws) f.0.0 ∙ ap (start b) (words_only bs ws (f.0.1, f.1))
+words_only w [] f = ap words (append-nil w) ∙ whole_word w f.0
+words_only w (v ∷ ws) f = words-front w (v ++ blank_before ws) f.0 ∙ ap (λ x. w ∷ x) (words_only v ws f.1)
 
 abbrev Spaced : List ℕ → List (List ℕ) → Type 0
 Spaced line all = (w : List ℕ) × (ws : List (List ℕ)) × (all ≡ w ∷ ws) × (line ≡ w ++ blank_before ws)

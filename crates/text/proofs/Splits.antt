@@ -1,66 +1,78 @@
 -- Laws of the lines of a text and the words of a line.
-use Rattle.std.proofs.Common.{◌≡◌, ℕ, zero, suc, ◌+◌, ◌-◌, ◌<◌, ◌≤◌, cond, eqb, List, [], ◌∷◌, length, get_or, take, drop, sym, refl, ap, ◌∙◌, arith, length-drop, length-take}
-use Rattle.std.proofs.lemmas.List.{take_rest, drop_all}
-use Rattle.std.proofs.lemmas.Bool.{cond-true, cond-false, eq-eqb, ne_eqb}
-use Rattle.text.specs.Split.{lines, words, start}
+use Rattle.std.specs.Prelude.{position, MatchOption}
+use Rattle.std.specs.Option.{option_or}
+use Rattle.std.specs.Borrow.{Bor}
+use Rattle.std.specs.List.{position_or_len}
+use Rattle.std.proofs.Common.{◌≡◌, ℕ, suc, ◌+◌, ◌-◌, ◌<◌, ◌≤◌, Bool, true, false, cond, eqb, ltb, List, [], ◌∷◌, ◌++◌, length, get_or, take, drop, Some, None, Option, sym, refl, ap, ◌∙◌, subst, take-append-drop, length-append, arith}
+use Rattle.std.proofs.lemmas.List.{take_rest, take_all, drop_more, get_or-take, length-take-le}
+use Rattle.std.proofs.lemmas.Bool.{cond-false, ne_eqb, eqb-true, eqb-false, ltb-false}
+use Rattle.std.proofs.lemmas.List.Elements.{recursion_from_All}
+use Rattle.std.proofs.lemmas.List.Sums.{fails_before_first}
+use Rattle.std.proofs.lemmas.List.Quantifiers.{position-Some}
+use Rattle.text.specs.Split.{start, lines, words}
+use Rattle.text.specs.Laws.{Free}
 
--- no s below i
-abbrev pub Clear : ℕ → List ℕ → ℕ → Type 0
-Clear s text i = (k : ℕ) → k < i → get_or text k 0 ≡ s → ⊥
+module _ (s : ℕ) (bs : List ℕ) where
+  -- what stands before the place i has no s, if none of these characters is one
+  free_before : (i : ℕ) → i ≤ length bs → ((k d : ℕ) → k < i → eqb (get_or bs k d) s ≡ false) → Free s (take i bs)
+  free_before i l h =
+      recursion_from_All (λ b. b ≡ s → ⊥) (take i bs)
+      (λ k d m e. let lt : k < i = omega (arith, m, length-take-le i bs l) in eqb-false (get_or bs k d) s (h k d lt) (sym (get_or-take i bs k d lt) ∙ e))
 
-clear_tail : (s b : ℕ) (bs : List ℕ) (i : ℕ) → Clear s (b ∷ bs) (suc i) → Clear s bs i
-clear_tail s b bs i h k l e = h (suc k) (omega arith) e
+  pub cut_at : (i : ℕ) → position (λ b. eqb b s) bs ≡ Some i → Free s (take i bs) × (bs ≡ take i bs ++ s ∷ take (length bs - (i + 1)) (drop (i + 1) bs))
+  cut_at i e =
+      let p = position-Some (λ b. eqb b s) bs i 0 e in (
+        free_before i (omega (arith, p.0)) (λ k d l. (position-Some (λ b. eqb b s) bs i d e).2 k l),
+        sym (take-append-drop i bs)
+            ∙ ap (λ l. take i bs ++ l) (drop_more bs i 0 p.0 ∙ ap (λ b. b ∷ drop (i + 1) bs) (eqb-true (get_or bs i 0) s p.1))
+            ∙ ap (λ l. take i bs ++ s ∷ l) (sym (take_rest bs (i + 1))),
+      )
 
--- pieces is split at s
-abbrev pub Splits : ℕ → (List ℕ → List (List ℕ)) → Type 0
-Splits s pieces = (b : ℕ) (bs : List ℕ) → pieces (b ∷ bs) ≡ cond (eqb b s) ([] ∷ pieces bs) (start b (pieces bs))
+  pub whole : position (λ b. eqb b s) bs ≡ None → Free s bs
+  whole e = at (ltb (position_or_len (λ b. eqb b s) bs) (length bs)) refl e
+    where
+      at : (t : Bool) → ltb (position_or_len (λ b. eqb b s) bs) (length bs) ≡ t → cond t (Some (position_or_len (λ b. eqb b s) bs)) None ≡ None → Free s bs
+      at true q e = let z : ◌≡◌ {A = ℕ} 0 1 = cc in absurd (omega arith)
+      at false q e =
+          let l = ltb-false _ _ q in
+          subst (Free s) (take_all (length bs) bs (omega arith))
+          (free_before (length bs) (omega arith) (λ k d m. fails_before_first (λ b. eqb b s) bs k d (omega arith)))
 
-module _ (s : ℕ) (pieces : List ℕ → List (List ℕ)) (by : Splits s pieces) where
-  pub other : (b : ℕ) (bs : List ℕ) → (b ≡ s → ⊥) → pieces (b ∷ bs) ≡ start b (pieces bs)
-  other b bs n = by b bs ∙ cond-false (eqb b s) ([] ∷ pieces bs) (start b (pieces bs)) (ne_eqb b s n)
-
-  pieces_at : (text : List ℕ) (i : ℕ) → Clear s text i → i < length text → get_or text i 0 ≡ s → pieces text ≡ take i text ∷ pieces (drop (i + 1) text)
-  pieces_at [] i h l e = absurd (omega arith)
-  pieces_at (b ∷ bs) zero h l e = by b bs ∙ cond-true (eqb b s) ([] ∷ pieces bs) (start b (pieces bs)) (eq-eqb b s e)
-  pieces_at (b ∷ bs) (suc i) h l e =
-      let q : suc i + 1 ≡ suc (i + 1) = omega arith in
-      other b bs (h 0 (omega arith))
-      ∙ ap (start b) (pieces_at bs i (clear_tail s b bs i h) (omega arith) e)
-      ∙ ap (λ k. (b ∷ take i bs) ∷ pieces (drop k (b ∷ bs))) (sym q)
-
-  -- the piece before the first s, and what comes after that s
-  cut : (text : List ℕ) (i : ℕ) → Clear s text i → (i < length text → get_or text i 0 ≡ s) → i < length text → pieces text ≡ take (i - 0) text ∷ pieces (take (length text - (i + 1)) (drop (i + 1) text))
-  cut text i h f l =
-      let z : i ≡ i - 0 = omega arith in
-      pieces_at text i h l (f l)
-      ∙ ap (λ k. take k text ∷ pieces (drop (i + 1) text)) z
-      ∙ ap (λ t. take (i - 0) text ∷ pieces t) (sym (take_rest text (i + 1)))
-
-pub lines_cut : (text : List ℕ) (i : ℕ) → Clear 10 text i → (i < length text → get_or text i 0 ≡ 10) → i < length text → lines text ≡ take (i - 0) text ∷ lines (take (length text - (i + 1)) (drop (i + 1) text))
-lines_cut = cut 10 lines (λ b bs. refl)
-
-pub words_cut : (text : List ℕ) (i : ℕ) → Clear 32 text i → (i < length text → get_or text i 0 ≡ 32) → i < length text → words text ≡ take (i - 0) text ∷ words (take (length text - (i + 1)) (drop (i + 1) text))
-words_cut = cut 32 words (λ b bs. refl)
-
-whole_line : (text : List ℕ) → Clear 10 text (length text) → 0 < length text → lines text ≡ text ∷ []
-whole_line [] h l = absurd (omega arith)
-whole_line (b ∷ []) h l = other 10 lines (λ b bs. refl) b [] (h 0 (omega arith))
-whole_line (b ∷ d ∷ bs) h l =
-    other 10 lines (λ b bs. refl) b (d ∷ bs) (h 0 (omega arith)) ∙ ap (start b) (whole_line (d ∷ bs) (clear_tail 10 b (d ∷ bs) (length (d ∷ bs)) h) (omega arith))
+-- a line that ends with a line feed, and the others
+pub lines-front : (l t : List ℕ) → Free 10 l → lines (l ++ 10 ∷ t) ≡ l ∷ lines t
+lines-front [] t f = refl
+lines-front (b ∷ bs) t f = cond-false (eqb b 10) _ _ (ne_eqb b 10 f.0) ∙ ap (start b) (lines-front bs t f.1)
 
 -- a last line that lacks its line feed
-pub lines_whole : (text : List ℕ) (i : ℕ) → Clear 10 text i → length text ≤ i → 0 < length text → lines text ≡ text ∷ lines (take (length text - i) (drop i text))
-lines_whole text i h l some =
-    whole_line text (λ k m e. h k (omega arith) e) some ∙ ap (λ t. text ∷ lines t) (sym (take_rest text i ∙ drop_all i text l))
+pub whole_line : (l : List ℕ) → Free 10 l → 0 < length l → lines l ≡ l ∷ []
+whole_line [] f h = absurd (omega arith)
+whole_line (b ∷ []) f h = cond-false (eqb b 10) _ _ (ne_eqb b 10 f.0)
+whole_line (b ∷ d ∷ bs) f h = cond-false (eqb b 10) _ _ (ne_eqb b 10 f.0) ∙ ap (start b) (whole_line (d ∷ bs) f.1 (omega arith))
 
-whole_word : (text : List ℕ) → Clear 32 text (length text) → words text ≡ text ∷ []
-whole_word [] h = refl
-whole_word (b ∷ bs) h =
-    other 32 words (λ b bs. refl) b bs (h 0 (omega arith)) ∙ ap (start b) (whole_word bs (clear_tail 32 b bs (length bs) h))
+-- what a text is cut into at its first line feed
+pub first_line : (text : List ℕ) (parts : Option (Bor (List ℕ) × Bor (List ℕ))) (all : Bor (List ℕ) × Bor (List ℕ)) → all.0.now ≡ text → all.1.now ≡ [] → 0 < length text → MatchOption parts (Free 10 text) (λ p. Free 10 p.0.now × (text ≡ p.0.now ++ 10 ∷ p.1.now)) → MatchOption (option_or parts (Some all)) (text ≡ []) (λ p. (lines text ≡ p.0.now ∷ lines p.1.now) × (length p.1.now < length text))
+first_line text None all w n h f = (whole_line text f h ∙ ap (λ l. l ∷ []) (sym w) ∙ ap (λ t. all.0.now ∷ lines t) (sym n), omega (arith, h, ap length n))
+first_line text (Some p) all w n h f =
+    (ap lines f.1 ∙ lines-front p.0.now p.1.now f.0, omega (arith, ap length f.1, length-append p.0.now (10 ∷ p.1.now)))
 
-pub words_whole : (text : List ℕ) (i : ℕ) → Clear 32 text i → length text ≤ i → words text ≡ text ∷ []
-words_whole text i h l = whole_word text (λ k m e. h k (omega arith) e)
+-- a word that a blank ends, and the others
+pub words-front : (w t : List ℕ) → Free 32 w → words (w ++ 32 ∷ t) ≡ w ∷ words t
+words-front [] t f = refl
+words-front (b ∷ bs) t f = cond-false (eqb b 32) _ _ (ne_eqb b 32 f.0) ∙ ap (start b) (words-front bs t f.1)
 
--- what comes after is shorter
-pub shorter_after : (text : List ℕ) (i : ℕ) → i < length text → length (take (length text - (i + 1)) (drop (i + 1) text)) < length text
-shorter_after text i l = simp (length-take, length-drop) (omega arith)
+pub whole_word : (w : List ℕ) → Free 32 w → words w ≡ w ∷ []
+whole_word [] f = refl
+whole_word (b ∷ bs) f = cond-false (eqb b 32) _ _ (ne_eqb b 32 f.0) ∙ ap (start b) (whole_word bs f.1)
+
+-- each line but a last empty one takes a character
+length-start : (b : ℕ) (ls : List (List ℕ)) → length (start b ls) ≤ suc (length ls)
+length-start b [] = omega arith
+length-start b (l ∷ ls) = omega arith
+
+pub few_lines : (text : List ℕ) → length (lines text) ≤ length text
+few_lines [] = omega arith
+few_lines (b ∷ bs) = at (eqb b 10) (few_lines bs)
+  where
+    at : (t : Bool) → length (lines bs) ≤ length bs → length (cond t ([] ∷ lines bs) (start b (lines bs))) ≤ suc (length bs)
+    at true h = omega arith
+    at false h = omega (arith, length-start b (lines bs))

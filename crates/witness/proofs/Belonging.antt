@@ -1,29 +1,27 @@
 -- An area that is laid from lines that tell the truth has the assignment of the run.
-use Rattle.std.proofs.Common.{◌≡◌, ℕ, zero, suc, ◌+◌, ◌-◌, ◌<◌, ◌≤◌, Bool, true, eqb, leb, ◌↔◌, List, [], ◌∷◌, reverse, length, Decides, sym, ap, ◌∙◌, subst, ⊎_elim, arith}
+use Rattle.std.proofs.Common.{◌≡◌, ℕ, zero, suc, ◌+◌, ◌-◌, ◌<◌, ◌≤◌, Bool, true, eqb, leb, ◌↔◌, List, [], ◌∷◌, reverse, length, Decides, sym, ap, subst, ⊎_elim, arith}
 use Rattle.std.proofs.lemmas.Bool.{cases_Bool, both_ways, eq-eqb, eqb-true, le-leb, leb-true}
 use Rattle.std.proofs.lemmas.Bool.Decides.{Decides-like, same_from_decides}
 use Rattle.std.proofs.lemmas.List.{take_all}
 use Rattle.sinks.specs.Models.{assigned}
 use Rattle.mtl.specs.declared.row.Row.{Row}
 use Rattle.mtl.specs.declared.operator.Extra.{Extra}
-use Rattle.mtl.specs.declared.operator.Extra.TheVariants.{Nothing, Seen as SeenExtra, Ahead}
+use Rattle.mtl.specs.declared.operator.Extra.TheVariants.{Nothing, Seen, Ahead}
 use Rattle.mtl.specs.declared.operator.Shape.{Shape}
 use Rattle.mtl.specs.declared.operator.Shape.TheVariants.{Free, Same, Both, Either, Upto, Hold, Any, All}
 use Rattle.mtl.specs.Formula.{Formula, Sat}
-use Rattle.mtl.specs.Rows.{first, second, distance, operator_of, extra_count}
+use Rattle.mtl.specs.Rows.{first, second, distance, operator_of}
 use Rattle.mtl.specs.Lists.{block, top}
 use Rattle.mtl.specs.Runs.{lasso, word, formula, Belongs, Sought, ExtraTells, Marks}
 use Rattle.mtl.specs.Tables.{lawful}
-use Rattle.mtl.proofs.Lasso.{lasso_low}
 use Rattle.mtl.proofs.Tables.{top_least}
 use Rattle.evaluate.specs.Letters.{has}
 use Rattle.evaluate.specs.Bits.{bit}
 use Rattle.evaluate.specs.Lines.{line, Ready}
 use Rattle.evaluate.specs.Truths.{row_at, older, cell, Known, Written}
 use Rattle.evaluate.proofs.Tables.{older_more, older-length, known-below, written_all, ready}
-use Rattle.witness.specs.Parts.{sought, AmongIf, extra_with}
-use Rattle.witness.specs.Areas.{TellIf, Laid}
-use Rattle.witness.proofs.Laying.{among_extra}
+use Rattle.witness.specs.Blocks.{sought, ExtraTold, Laid}
+use Rattle.witness.proofs.Laying.{Reads, reads}
 
 -- what E looks for, in the byte that tells B
 yes_iff : (b : Bool) (B : Type 0) → Decides b B → (b ≡ true) ↔ B
@@ -41,15 +39,15 @@ sought_iff All b B d = yes_iff b B d
 
 module _ (k l : ℕ) (in' : l ≤ k) (letters : List ℕ) (work area : List ℕ) where
   -- the extra bytes say what the extra variables stand for
-  extra-said : (f : ℕ → Formula) (n a u : ℕ) → a + 1 ≡ u → ((m : ℕ) → m < n → (i : ℕ) → Decides (cell k work m (lasso k l i)) (Sat (word k l (has letters)) (f m) i)) → (p q t : ℕ) (s : Shape) (e : Extra) → AmongIf n (extra_with k p q s e) → TellIf k l (line k work) area a (extra_count k t e) (extra_with k p q s e) → ExtraTells k l (assigned area) (block u) (Sat (word k l (has letters)) (f p)) (Sat (word k l (has letters)) (f q)) t s e
+  extra-said : (f : ℕ → Formula) (n a u : ℕ) → a + 1 ≡ u → ((m : ℕ) → m < n → (i : ℕ) → Decides (cell k work m (lasso k l i)) (Sat (word k l (has letters)) (f m) i)) → (p q t : ℕ) (s : Shape) (e : Extra) → Reads n p q e → ExtraTold k l area a (line k work p) (line k work q) t s e → ExtraTells k l (assigned area) (block u) (Sat (word k l (has letters)) (f p)) (Sat (word k l (has letters)) (f q)) t s e
   extra-said f n a u e h p q t s Nothing o x = tt
-  extra-said f n a u e h p q t s SeenExtra o x = λ i d.
+  extra-said f n a u e h p q t s Seen o x = λ i d.
       let z : u + i - 1 ≡ a + i = omega arith in
       let one = λ (j : ℕ). sought_iff s (cell k work q (lasso k l j)) (Sat (word k l (has letters)) (f q) j) (h q o j) in
-      rw z (Decides-like (bit area (a + i)) (λ g. (g.0, g.1, g.2, (one g.0).0 g.3)) (λ g. (g.0, g.1, g.2, (one g.0).1 g.3)) (x i d))
+      rw z (Decides-like (bit area (a + i)) (λ g. (g.0, g.1, g.2, (one g.0).0 g.3)) (λ g. (g.0, g.1, g.2, (one g.0).1 g.3)) (x i (omega arith)))
   extra-said f n a u e h p q t s Ahead o x = λ i d.
       let z : u + i - 1 ≡ a + i = omega arith in
-      rw z (Decides-like (bit area (a + i)) (h p o.0 (k + 1 + i)).0 (h p o.0 (k + 1 + i)).1 (x i d))
+      rw z (Decides-like (bit area (a + i)) (h p o (k + 1 + i)).0 (h p o (k + 1 + i)).1 (x i d))
 
   marked : Laid k l work area [] → Marks k (assigned area) l
   marked h i c =
@@ -65,25 +63,23 @@ module _ (k l : ℕ) (in' : l ≤ k) (letters : List ℕ) (work area : List ℕ)
   KnownAll (r ∷ rs) =
       KnownAll rs × (Known k l letters rs work (length rs) × Ready (length rs) r × Written k l letters rs work (length rs) r (k + 1))
 
-  laid_belongs : k ≤ 31 → (rs : List Row) → KnownAll rs → Laid k l work area rs → Belongs k l (word k l (has letters)) (assigned area) rs
-  laid_belongs low [] q h = marked h
-  laid_belongs low (r ∷ rs) q h =
+  laid_belongs : (rs : List Row) → KnownAll rs → Laid k l work area rs → Belongs k l (word k l (has letters)) (assigned area) rs
+  laid_belongs [] q h = marked h
+  laid_belongs (r ∷ rs) q h =
       let t = top_least k rs in (
-        laid_belongs low rs q.0 h.0,
+        laid_belongs rs q.0 h.0,
         (λ i c.
             let z : top k rs + i - 1 ≡ top k rs - 1 + i = omega arith in
-            let y : 0 + i ≡ i = omega arith in
             let d = q.1.2 i (omega arith) in
-            let e : cell k work (length rs) (lasso k l (0 + i)) ≡ cell k work (length rs) i = ap (λ j. cell k work (length rs) (lasso k l j)) y ∙ ap (cell k work (length rs)) (lasso_low k l in' i (omega arith)) in
-            rw z (Decides-like (bit area (top k rs - 1 + i)) (λ p. d.0 (sym e ∙ p)) (λ p. e ∙ d.1 p) (h.1.0 i (omega arith)))),
+            rw z (Decides-like (bit area (top k rs - 1 + i)) d.0 d.1 (h.1.0 i (omega arith)))),
         extra-said (formula rs) (length rs) (top k rs - 1 + (k + 1)) (top k rs + suc k) (omega arith) q.1.0 (first r) (second r) (distance r) (operator_of r).shape (operator_of r).extra
-            (among_extra k (length rs) r low q.1.1) h.1.1,
+            (reads (length rs) r q.1.1) h.1.1,
       )
 
-  pub run_belongs : k ≤ 31 → (rows : List Row) → lawful rows ≡ true → Known k l letters (reverse rows) work (length rows) → Laid k l work area (reverse rows) → Belongs k l (word k l (has letters)) (assigned area) (reverse rows)
-  run_belongs low rows law q h =
+  pub run_belongs : (rows : List Row) → lawful rows ≡ true → Known k l letters (reverse rows) work (length rows) → Laid k l work area (reverse rows) → Belongs k l (word k l (has letters)) (assigned area) (reverse rows)
+  run_belongs rows law q h =
       let e : older rows (length rows) ≡ reverse rows = ap reverse (take_all (length rows) rows (omega arith)) in
-      laid_belongs low (reverse rows) (subst (λ (rs : List Row). KnownAll rs) e (alls (length rows) (omega arith))) h
+      laid_belongs (reverse rows) (subst (λ (rs : List Row). KnownAll rs) e (alls (length rows) (omega arith))) h
     where
       alls : (n : ℕ) → n ≤ length rows → KnownAll (older rows n)
       alls zero c = tt

@@ -2,6 +2,7 @@
 use Rattle.std.proofs.Common.{◌≡◌, ℕ, zero, suc, ◌+◌, ◌<◌, ◌≤◌, Bool, true, false, cond, eqb, leb, List, [], ◌∷◌, reverse, length, Some, None, Ok, Err, Option, Result, sym, refl, ap, ◌∙◌, subst, ⊎_elim, arith}
 use Rattle.std.proofs.lemmas.Bool.{cases_Bool, cases_order, cond-true, cond-false, eq-eqb, ne_eqb, eqb-true, leb-true, false≢true, or_cases, or_parts, both_ways}
 use Rattle.std.proofs.lemmas.List.{take_all}
+use Rattle.std.specs.Result.{IsErr}
 use Rattle.cnf.specs.Clauses.{Assignment, truth}
 use Rattle.sinks.specs.Models.{assigned}
 use Rattle.mtl.specs.declared.row.Row.{Row}
@@ -9,7 +10,7 @@ use Rattle.mtl.specs.Formula.{Word}
 use Rattle.mtl.specs.Rows.{signal_of}
 use Rattle.mtl.specs.Lists.{starts, block, top, start, value}
 use Rattle.mtl.specs.Runs.{Run, endless_word, word, formula, Belongs}
-use Rattle.mtl.specs.Tables.{names, is_signal, has_signal, lawful}
+use Rattle.mtl.specs.Tables.{names, is_signal, has_signal, row_of, lawful}
 use Rattle.mtl.specs.Statements.{BelongsTo}
 use Rattle.mtl.proofs.Tables.{newest}
 use Rattle.mtl.proofs.Exact.{reads, marks_of}
@@ -20,7 +21,7 @@ use Rattle.evaluate.specs.Truths.{row_at, older}
 use Rattle.evaluate.proofs.Tables.{older_more, older-length, ready}
 use Rattle.witness.specs.declared.refusal.Refusal.{Refusal}
 use Rattle.witness.specs.declared.refusal.Refusal.TheVariants.{NotBegun, Letters, Room, NoStart}
-use Rattle.witness.specs.Shown.{starts_true, start_below, run_asks, run_answer, row_of, row_shown, shown, LettersShown, IsRun, ComesOut}
+use Rattle.witness.specs.Shown.{starts_true, start_below, run_asks, run_answer, row_shown, shown, LettersShown, IsRun, ComesOut}
 
 -- where just L(l) is true, it is found
 module _ (α : Assignment) (l : ℕ) where
@@ -145,3 +146,7 @@ module _ (s : State) (area : List ℕ) (room : ℕ) where
       let one = (belongs_start s.bound s.rows (assigned area) run b).0 in
       not_no_start s.begun (eqb room (s.bound + 1)) (leb (highest s) (length area)) (eqb (starts_true (assigned area) (s.bound + 1)) 1) (start_below (assigned area) (s.bound + 1))
       (eq-eqb (starts_true (assigned area) (s.bound + 1)) 1 one) (ap Err (sym q) ∙ h)
+
+  pub refused_result : (letters : List ℕ) (r : Result ℕ Refusal) → IsErr r → r ≡ run_answer s area room → ComesOut s area r letters
+  refused_result letters (Ok l) n h = absurd (false≢true n)
+  refused_result letters (Err e) n h = refused_out e letters h

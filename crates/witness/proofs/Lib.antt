@@ -1,7 +1,9 @@
 pub mod Laying
+pub mod Putting
 pub mod Belonging
 pub mod Filling
 pub mod Digits
+pub mod Starts
 pub mod Reading
 pub mod Coming
 pub mod Moving

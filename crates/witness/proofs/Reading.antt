@@ -1,39 +1,25 @@
 -- What is read from an area.
-use Rattle.std.proofs.Common.{◌≡◌, ℕ, suc, ◌+◌, ◌-◌, ◌<◌, ◌≤◌, Bool, cond, eqb, ◌≢◌, List, reverse, length, get_or, take, drop, set, Some, None, sym, ap, ◌∙◌, subst, ⊎_elim, arith, get_or-set_other, get_or-set_same}
-use Rattle.std.proofs.lemmas.List.{at_drop_more, at_drop_all}
+use Rattle.std.proofs.Common.{◌≡◌, ℕ, suc, ◌+◌, ◌<◌, ◌≤◌, Bool, true, false, cond, ◌≢◌, List, [], ◌∷◌, reverse, length, take, set, Some, sym, subst, ⊎_elim, arith, get_or-set_other, get_or-set_same}
 use Rattle.std.proofs.lemmas.Bool.{cases_order}
-use Rattle.sinks.specs.Models.{assigned}
 use Rattle.mtl.specs.declared.row.Row.{Row}
-use Rattle.mtl.specs.declared.row.Row.TheVariants.{Signal}
 use Rattle.mtl.specs.Formula.{Word}
 use Rattle.mtl.specs.Lists.{top, start}
-use Rattle.mtl.specs.Tables.{is_signal}
+use Rattle.mtl.specs.Tables.{is_signal, row_of}
 use Rattle.mtl.proofs.Places.{top_at, start_at}
 use Rattle.evaluate.specs.Letters.{holds, has}
-use Rattle.evaluate.specs.Truths.{row_at}
-use Rattle.witness.specs.Shown.{starts_true, start_below, row_of}
 use Rattle.witness.proofs.Laying.{top_more, top_to}
 
--- one more of the variables of the loop start
-pub start_step : (area : List ℕ) (i : ℕ) (b : Bool) → eqb (get_or area i 0) 1 ≡ b → (starts_true (assigned area) (i + 1) ≡ cond b 1 0 + starts_true (assigned area) i) × (start_below (assigned area) (i + 1) ≡ cond b i (start_below (assigned area) i))
-start_step area i b h =
-    let e : i + 1 ≡ suc i = omega arith in
-    let z : suc i - 1 ≡ i = omega arith in
-    let t = ap (λ j. eqb (get_or area j 0) 1) z ∙ h in (
-      ap (starts_true (assigned area)) e ∙ ap (λ x. cond x 1 0 + starts_true (assigned area) i) t,
-      ap (start_below (assigned area)) e ∙ ap (λ x. cond x i (start_below (assigned area) i)) t,
-    )
+-- a signal's row is there
+row_among : (m a : ℕ) (rows : List Row) (n : ℕ) → Some n ≡ row_of m a rows → n < m + length rows
+row_among m a [] n e = cc
+row_among m a (r ∷ rs) n e = either (is_signal a r) e (row_among (suc m) a rs n)
+  where
+    either : (b : Bool) → Some n ≡ cond b (Some m) (row_of (suc m) a rs) → (Some n ≡ row_of (suc m) a rs → n < suc m + length rs) → n < m + length (r ∷ rs)
+    either true q f = let z : n ≡ m = cc in omega arith
+    either false q f = let z = f q in omega arith
 
--- one row less to look at
-pub row_step : (rows : List Row) (n a : ℕ) → n < length rows → (b : Bool) → b ≡ is_signal a (row_at rows n) → row_of n a (drop n rows) ≡ row_of 0 a rows → cond b (Some n) (row_of (n + 1) a (drop (n + 1) rows)) ≡ row_of 0 a rows
-row_step rows n a c b h inv =
-    let e : n + 1 ≡ suc n = omega arith in
-    ap (λ x. cond x (Some n) (row_of (n + 1) a (drop (n + 1) rows))) h
-    ∙ ap (λ m. cond (is_signal a (row_at rows n)) (Some n) (row_of m a (drop (n + 1) rows))) e
-    ∙ sym (at_drop_more (row_of n a) rows n (Signal 0) c) ∙ inv
-
-pub row_none : (rows : List Row) (n a : ℕ) → length rows ≤ n → row_of n a (drop n rows) ≡ row_of 0 a rows → None ≡ row_of 0 a rows
-row_none rows n a c inv = sym (at_drop_all (row_of n a) rows n c) ∙ inv
+pub row_inside : (a : ℕ) (rows : List Row) (n : ℕ) → Some n ≡ row_of 0 a rows → n < length rows
+row_inside a rows n e = let z = row_among 0 a rows n e in omega arith
 
 -- the variables of a row lie below the top
 pub start-inside : (k : ℕ) (rows : List Row) (n i : ℕ) → n < length rows → i ≤ k → (1 ≤ start k (reverse rows) n + i) × (start k (reverse rows) n + i < top k (reverse rows))

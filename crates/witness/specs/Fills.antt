@@ -53,6 +53,11 @@ FillAnswer s l letters area work r =
     (known : Bool) × Decides known (SignalsKnown s.rows letters)
     × Then (early_answer s l (length letters) known area work) (SettledAnswer s l letters) r
 
+-- the earlier questions are answered yes, so that the last one gives the answer
+abbrev pub EarlyYes : State → ℕ → List ℕ → ℕ → ℕ → Type 0
+EarlyYes s l letters area work =
+    (known : Bool) × Decides known (SignalsKnown s.rows letters) × (Ok tt ≡ early_answer s l (length letters) known area work)
+
 -- what an accepted fill leaves in the area
 pub record Filled (s : State) (l : ℕ) (letters before after : List ℕ) : Type 0 where
   pub inside : l ≤ s.bound

@@ -1,6 +1,6 @@
 pub mod Refusals
-pub mod Parts
 pub mod Areas
+pub mod Blocks
 pub mod Fills
 pub mod Shown
 pub mod Trips

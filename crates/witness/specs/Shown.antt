@@ -7,7 +7,7 @@ use Rattle.mtl.specs.declared.row.Row.{Row}
 use Rattle.mtl.specs.Formula.{Word}
 use Rattle.mtl.specs.Lists.{starts, value}
 use Rattle.mtl.specs.Runs.{Run}
-use Rattle.mtl.specs.Tables.{is_signal, has_signal}
+use Rattle.mtl.specs.Tables.{has_signal, row_of}
 use Rattle.mtl.specs.Statements.{BelongsTo}
 use Rattle.job.specs.Calls.{State, highest}
 use Rattle.evaluate.specs.Letters.{has}
@@ -36,11 +36,6 @@ run_asks s area letters =
 -- the first no, or else the one loop start
 abbrev pub run_answer : State → List ℕ → ℕ → Result ℕ Refusal
 run_answer s area letters = first_no (run_asks s area letters) (start_below (assigned area) (s.bound + 1))
-
--- the signal's row among the rows, which are numbered from n on
-abbrev pub row_of : ℕ → ℕ → List Row → Option ℕ
-row_of n a [] = None
-row_of n a (r ∷ rs) = cond (is_signal a r) (Some n) (row_of (suc n) a rs)
 
 -- V(i) of a row; a signal that has none is off
 abbrev pub row_shown : ℕ → Assignment → List Row → ℕ → Option ℕ → Bool

@@ -4,7 +4,7 @@ use Rattle.cnf.specs.Sinks.{Model}
 use Rattle.sinks.specs.Models.{assigned}
 use Rattle.mtl.specs.Tables.{Asked, lawful}
 use Rattle.mtl.specs.Statements.{Obeys}
-use Rattle.job.specs.declared.call.Call.{Call}
+use Rattle.calls.specs.declared.Call.{Call}
 use Rattle.job.specs.Calls.{State, Answer, fresh, highest}
 use Rattle.job.specs.Runs.{Ran, Shows}
 use Rattle.evaluate.specs.Letters.{has}

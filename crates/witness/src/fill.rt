@@ -4,12 +4,14 @@ ghost use Rattle.mtl.specs.Layout.{rows_of};
 ghost use Rattle.job.specs.Calls.{highest};
 ghost use Rattle.job.specs.States.{state_of};
 ghost use Rattle.evaluate.specs.Letters.{has};
-ghost use Rattle.witness.specs.Fills.{SignalsKnown, early_answer, FillAnswer, Filled};
+ghost use Rattle.witness.specs.Fills.{SignalsKnown, EarlyYes, FillAnswer, Filled};
 
 use crate::area::write_area;
 use crate::refusal::Refusal;
-use evaluate::lines::holds;
+use evaluate::lasso::Lasso;
+use evaluate::lines::Lines;
 use evaluate::rows::evaluate;
+use evaluate::run::{Run, holds};
 use job::state::Setup;
 use mtl::table::Table;
 
@@ -18,24 +20,14 @@ fn is_unused(letters: &[u32], a: u8) -> bool
     requires { a ≤ 31 }
     ensures { Decides result ((i : ℕ) → i < length letters.now → has letters.now i a ≡ false) }
 {
-    for i in 0..letters.len() {
-        if holds(letters[i], a) {
-            return false;
-        }
-    }
-    true
+    letters.iter().all(|letter| !holds(*letter, a))
 }
 
 // Whether every signal that is used has a row.
 fn all_known(table: &Table, letters: &[u32]) -> bool
     ensures { Decides result (SignalsKnown (rows_of table.now) letters.now) }
 {
-    for a in 0..32 {
-        if !table.has_signal(a) && !is_unused(letters, a) {
-            return false;
-        }
-    }
-    true
+    (0..32).all(|a| table.has_signal(a) || is_unused(letters, a))
 }
 
 // Whether an area and a work area of these lengths are large enough.
@@ -45,33 +37,37 @@ fn has_room(setup: &Setup, area: usize, work: usize) -> bool
     setup.highest() as usize <= area && setup.table().len() * (setup.bound() as usize + 1) <= work
 }
 
-// The questions before the one whether the run is settled.
-fn ask_fill(
+// The questions before the one whether the run is settled, and then the run.
+fn ask_fill<'a>(
     setup: &Setup,
     l: u8,
-    letters: usize,
-    known: bool,
+    letters: &'a [u32],
     area: usize,
     work: usize,
-) -> Result<(), Refusal>
-    ensures { result ≡ early_answer (state_of setup.now) l letters known area work }
+) -> Result<Run<'a>, Refusal>
+    ensures answer { elim result [ Ok _ ↦ EarlyYes (state_of setup.now) l letters.now area work | Err e ↦ FillAnswer (state_of setup.now) l letters.now area work (Err e) ] }
+    ensures run { elim result [ Ok run ↦ (run.lasso.bound ≡ (state_of setup.now).bound) × (run.lasso.start ≡ l) × (run.letters.now ≡ letters.now) | Err _ ↦ Unit {0} ] }
 {
     if !setup.is_begun() {
         return Err(Refusal::NotBegun);
     }
-    if letters != setup.bound() as usize + 1 {
+    if letters.len() != setup.bound() as usize + 1 {
         return Err(Refusal::Letters);
     }
     if l > setup.bound() {
         return Err(Refusal::Start);
     }
-    if !known {
+    if !all_known(setup.table(), letters) {
         return Err(Refusal::Signal);
     }
     if !has_room(setup, area, work) {
         return Err(Refusal::Room);
     }
-    Ok(())
+    let lasso = Lasso {
+        bound: setup.bound() as usize,
+        start: l as usize,
+    };
+    Ok(Run { lasso, letters })
 }
 
 // Writes the assignment that belongs to the run with the loop start l and these letters to the front of the area, a byte for each
@@ -86,16 +82,16 @@ pub fn fill(
     ensures answer { FillAnswer (state_of setup.now) l letters.now (length area.old) (length work.old) result }
     ensures wrote { elim result [ Ok _ ↦ Filled (state_of setup.now) l letters.now area.old area.new | Err _ ↦ area.new ≡ area.old ] }
 {
+    let run = ask_fill(setup, l, letters, area.len(), work.len())?;
     let table = setup.table();
-    let known = all_known(table, letters);
-    if let Err(refusal) = ask_fill(setup, l, letters.len(), known, area.len(), work.len()) {
-        return Err(refusal);
-    }
-    let k = setup.bound();
+    let count = table.len();
     let rows = table.as_slice();
-    if let Err(n) = evaluate(k as usize, l as usize, letters, rows, work) {
-        return Err(Refusal::Unsettled(n as u8));
-    }
-    write_area(area, k, l, rows, work);
+    evaluate(&run, rows, work)?;
+    let lines = Lines {
+        bytes: work,
+        lasso: run.lasso,
+        count,
+    };
+    write_area(area, &lines, rows);
     Ok(())
 }

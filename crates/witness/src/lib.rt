@@ -3,7 +3,6 @@
 
 mod area;
 pub mod fill;
-mod parts;
 pub mod refusal;
 pub mod run;
 pub mod theorems;

@@ -2,7 +2,9 @@
 ghost use Rattle.std.specs.Prelude.{◌≡◌};
 ghost use Rattle.witness.specs.Refusals.{number};
 
-#[derive(Clone, Copy)]
+use evaluate::rows::Unsettled;
+
+#[derive(Debug, Clone, Copy, PartialEq, Eq)]
 pub enum Refusal {
     // the job is not begun
     NotBegun,
@@ -21,7 +23,7 @@ pub enum Refusal {
 }
 
 impl Refusal {
-    // The number of the question that was answered no.
+    // The number of the question that was answered no. A variant that carries a row has no discriminant.
     pub fn number(self) -> u32
         ensures { result ≡ number self }
     {
@@ -34,5 +36,15 @@ impl Refusal {
             Refusal::Unsettled(_) => 54,
             Refusal::NoStart => 55,
         }
+    }
+}
+
+impl From<Unsettled> for Refusal {
+    ghost use Rattle.witness.specs.declared.refusal.Refusal.TheVariants.{Unsettled as UnsettledFor};
+
+    ghost from_gives = { λ e r. r ≡ UnsettledFor e.row };
+
+    fn from(e: Unsettled) -> Refusal {
+        Refusal::Unsettled(e.row)
     }
 }

@@ -2,7 +2,7 @@
 #![tactic(auto)]
 
 use calls::{beginning, defining};
-use job::call::{Call, Exchange};
+use job::call::Exchange;
 use job::drive::drive_lent;
 use job::state::Setup;
 use sinks::judge::Judge;
@@ -12,10 +12,7 @@ use witness::refusal::Refusal;
 use witness::run::run;
 
 // What a job knows after the calls.
-fn after(calls: &[Call], exchanges: &mut [Exchange]) -> Setup {
-    for i in 0..calls.len().min(exchanges.len()) {
-        exchanges[i].call = calls[i];
-    }
+fn after(exchanges: &mut [Exchange]) -> Setup {
     let variables = [0u8; 200];
     let mut judge = Judge::new(&variables);
     drive_lent(&mut judge, exchanges)
@@ -77,14 +74,10 @@ fn show_run(
 }
 
 fn show_questions(rt: &HostRuntime) -> anyhow::Result<()> {
-    let unasked = Exchange {
-        call: beginning(0),
-        answer: None,
-    };
-    let fresh = after(&[], &mut []);
+    let fresh = after(&mut []);
     show_fill(rt, "fill, not begun", &fresh, 0, &[0], 9, 9)?;
     show_run(rt, "run, not begun", &fresh, &[1], 1)?;
-    let setup = after(&[beginning(1), defining(1, 3, 0, 0)], &mut [unasked; 2]);
+    let setup = after(&mut [beginning(1), defining(1, 3, 0, 0)].map(Exchange::from));
     show_fill(rt, "one letter for two instants", &setup, 0, &[8], 6, 2)?;
     show_fill(rt, "loop start after the bound", &setup, 2, &[8, 0], 6, 2)?;
     show_fill(rt, "a signal without a row", &setup, 0, &[8, 1], 6, 2)?;
@@ -113,52 +106,40 @@ fn show_questions(rt: &HostRuntime) -> anyhow::Result<()> {
 
 // Previous, whose loop has to close on the signal.
 fn show_previous(rt: &HostRuntime) -> anyhow::Result<()> {
-    let unasked = Exchange {
-        call: beginning(0),
-        answer: None,
-    };
-    let short = after(
-        &[beginning(1), defining(1, 0, 0, 0), defining(11, 0, 0, 0)],
-        &mut [unasked; 3],
-    );
+    let short = after(&mut [beginning(1), defining(1, 0, 0, 0), defining(11, 0, 0, 0)].map(
+        Exchange::from,
+    ));
     show_fill(rt, "previous, off on", &short, 1, &[0, 1], 8, 4)?;
-    let long = after(
-        &[beginning(2), defining(1, 0, 0, 0), defining(11, 0, 0, 0)],
-        &mut [unasked; 3],
-    );
+    let long = after(&mut [beginning(2), defining(1, 0, 0, 0), defining(11, 0, 0, 0)].map(
+        Exchange::from,
+    ));
     show_fill(rt, "previous, off on on", &long, 2, &[0, 1, 1], 12, 6)
 }
 
 // A run under all seventeen operators, filled and read back.
 fn show_all_operators(rt: &HostRuntime) -> anyhow::Result<()> {
-    let unasked = Exchange {
-        call: beginning(0),
-        answer: None,
-    };
-    let setup = after(
-        &[
-            beginning(6),
-            defining(1, 0, 0, 0),
-            defining(1, 1, 0, 0),
-            defining(2, 0, 0, 0),
-            defining(3, 0, 1, 0),
-            defining(4, 0, 1, 0),
-            defining(5, 0, 0, 0),
-            defining(6, 0, 1, 0),
-            defining(7, 1, 0, 0),
-            defining(8, 0, 0, 5),
-            defining(9, 3, 0, 3),
-            defining(10, 4, 0, 2),
-            defining(11, 0, 0, 0),
-            defining(12, 1, 0, 0),
-            defining(13, 0, 1, 0),
-            defining(14, 1, 0, 0),
-            defining(15, 0, 0, 2),
-            defining(16, 1, 0, 2),
-            defining(17, 4, 0, 1),
-        ],
-        &mut [unasked; 19],
-    );
+    let setup = after(&mut [
+        beginning(6),
+        defining(1, 0, 0, 0),
+        defining(1, 1, 0, 0),
+        defining(2, 0, 0, 0),
+        defining(3, 0, 1, 0),
+        defining(4, 0, 1, 0),
+        defining(5, 0, 0, 0),
+        defining(6, 0, 1, 0),
+        defining(7, 1, 0, 0),
+        defining(8, 0, 0, 5),
+        defining(9, 3, 0, 3),
+        defining(10, 4, 0, 2),
+        defining(11, 0, 0, 0),
+        defining(12, 1, 0, 0),
+        defining(13, 0, 1, 0),
+        defining(14, 1, 0, 0),
+        defining(15, 0, 0, 2),
+        defining(16, 1, 0, 2),
+        defining(17, 4, 0, 1),
+    ]
+    .map(Exchange::from));
     let letters = [3, 0, 1, 2, 1, 0, 1];
     show_fill(rt, "all operators", &setup, 3, &letters, 164, 126)?;
     let mut area = [0u8; 164];

@@ -5,8 +5,8 @@ use script::file::{FILE_BYTES, MOST_SCRIPT, WORK_BYTES, make_file};
 use std::io::{Read, Write};
 use std::process::ExitCode;
 
-// Prints the file or the refusal; true where it is a refusal.
-fn run(rt: &HostRuntime) -> anyhow::Result<bool> {
+// Prints the file or the refusal; the status is 1 for a refusal.
+fn main(rt: HostRuntime) -> anyhow::Result<ExitCode> {
     let mut script = Vec::new(rt.alloc());
     rt.stdin().take(MOST_SCRIPT).read_to_end(&mut script)?;
     let mut work = [0u8; WORK_BYTES];
@@ -14,20 +14,11 @@ fn run(rt: &HostRuntime) -> anyhow::Result<bool> {
     match make_file(&script, &mut work, &mut output) {
         Ok(n) => {
             rt.stdout().write_all(&output[0..n])?;
-            Ok(false)
+            Ok(ExitCode::SUCCESS)
         }
         Err(stop) => {
             println!(rt; "{stop}")?;
-            Ok(true)
+            Ok(ExitCode::FAILURE)
         }
-    }
-}
-
-// The status is 1 for a refusal.
-fn main(rt: HostRuntime) -> anyhow::Result<ExitCode> {
-    if run(&rt)? {
-        Ok(ExitCode::FAILURE)
-    } else {
-        Ok(ExitCode::SUCCESS)
     }
 }

@@ -1,16 +1,29 @@
-use Rattle.std.proofs.Common.{sym, refl}
-use Rattle.answers.proofs.Results.{values_given, value_missing, filled}
+use Rattle.std.proofs.Common.{◌≡◌, length, refl, ◌∙◌, rules}
+use Rattle.std.proofs.lemmas.Bool.{both_ways}
+use Rattle.text.specs.Split.{lines, kept}
+use Rattle.answers.specs.Reading.{literals}
+use Rattle.answers.proofs.Results.{none_given, values_given, value_missing, filled}
 use Rattle.answers.proofs.reading.read_values.Goals as goal
 
-pub returns-then-not-has_all : goal.returns-then-not-has_all
-returns-then-not-has_all c =
-    let m = c.in-Some.ensures in
-    record { said = value_missing c.args.highest _ _ _ m.0 m.2 (sym c.if-is_strange.ensures) m.1 c.requires.0 c.if-not-has_all.ensures; written = refl }
+pub give_all-requires-clause-none : goal.give_all-requires-clause-none
+give_all-requires-clause-none c = none_given (length c.args.area.now) 2112
+
+pub returns-then-not-are_given-clause-said : goal.returns-then-not-are_given-clause-said
+returns-then-not-are_given-clause-said c =
+    let v = length c.args.area.now in
+    let vs = c.give_all.new.values in
+    let given = c.in_ok-give_all.ensures in
+    let sized : length vs ≡ v = search rules in
+    value_missing v _ vs (literals (kept (lines c.args.text.now))) sized c.give_all.ensures.size c.in_ok-give_all.field-0 given.answer given.given (λ all. both_ways c.are_given.result c.if-not-are_given.true (c.are_given.ensures.1 all))
 
 pub returns : goal.returns
 returns c =
-    let m = c.in-Some.ensures in
+    let v = length c.args.area.now in
+    let vs = c.give_all.new.values in
+    let o = literals (kept (lines c.args.text.now)) in
+    let given = c.in_ok-give_all.ensures in
+    let sized : length vs ≡ v = search rules in
     record {
-      said = values_given c.args.highest _ _ _ m.0 m.2 (sym c.if-is_strange.ensures) m.1 c.requires.0 c.if-not-has_all.ensures;
-      written = filled c.args.highest _ _ _ m.0 m.2 (sym c.if-is_strange.ensures) m.1 c.requires.0 _ _ (c.write_to.ensures m.2.sized);
+      said = values_given v _ vs o sized c.give_all.ensures.size c.in_ok-give_all.field-0 given.answer given.given (c.are_given.ensures.0 c.if-not-are_given.false);
+      written = c.write.ensures ∙ filled v _ vs o sized c.give_all.ensures.size c.in_ok-give_all.field-0 given.answer given.given c.args.area.now refl;
     }

@@ -3,14 +3,14 @@ use Rattle.encode.proofs.Claims.{any_cut}
 use Rattle.encode.proofs.Receive.{first_fits, next_fits, both_took}
 use Rattle.encode.proofs.emit.write_any.Goals as goal
 
-pub put_clause-requires : goal.put_clause-requires
-put_clause-requires g c =
-    record { room = first_fits g.R.Receiver.reception _ _ (any_cut c.args.guard c.args.x c.opposite.result c.args.gs.now _ c.opposite.ensures c.opposites-flipped.ensures.items) c.requires.room; small = c.requires.small }
+pub put_clause-requires-clause-room : goal.put_clause-requires-clause-room
+put_clause-requires-clause-room g c =
+    first_fits g.R.Receiver.reception _ _ (any_cut c.args.guard c.args.x c.opposite.result c.args.gs.now _ c.opposite.ensures c.opposites-flipped.ensures) c.requires.room
 
 pub put_pairs-requires : goal.put_pairs-requires
 put_pairs-requires g c =
-    next_fits g.R.Receiver.reception _ _ (any_cut c.args.guard c.args.x c.opposite.result c.args.gs.now _ c.opposite.ensures (c.as_slice.ensures ∙ c.opposites-flipped.ensures.items)) c.requires.room c.put_clause.ensures
+    next_fits g.R.Receiver.reception _ _ (any_cut c.args.guard c.args.x c.opposite.result c.args.gs.now _ c.opposite.ensures (c.as_slice.ensures.value ∙ c.opposites-flipped.ensures)) c.requires.room c.put_clause.ensures
 
 pub returns : goal.returns
 returns g c =
-    both_took g.R.Receiver.reception _ _ (any_cut c.args.guard c.args.x c.opposite.result c.args.gs.now _ c.opposite.ensures (c.as_slice.ensures ∙ c.opposites-flipped.ensures.items)) c.put_clause.ensures c.put_pairs.ensures
+    both_took g.R.Receiver.reception _ _ (any_cut c.args.guard c.args.x c.opposite.result c.args.gs.now _ c.opposite.ensures (c.as_slice.ensures.value ∙ c.opposites-flipped.ensures)) c.put_clause.ensures c.put_pairs.ensures

@@ -1,18 +1,15 @@
-use Rattle.std.proofs.Common.{refl, [], ◌∷◌, arith}
+use Rattle.std.proofs.Common.{refl, [], ◌∷◌}
 use Rattle.encode.proofs.Receive.{fits_as}
 use Rattle.encode.proofs.rows.write_seen.Goals as goal
 
 pub write_claim-requires : goal.write_claim-requires
 write_claim-requires g c =
-    fits_as g.R.Receiver.reception _ (rw (c.extra_at.ensures, c.inside_at.ensures, c.given_as-b.ensures, c.in_block.ensures) refl) (g.R.Receiver.reception.front _ (_ ∷ _ ∷ _ ∷ []) _ c.requires)
+    fits_as g.R.Receiver.reception _ (rw (c.extra.ensures, c.inside_at.ensures, c.given-b.ensures, c.second.ensures) refl) (g.R.Receiver.reception.front _ (_ ∷ _ ∷ _ ∷ []) _ c.requires)
 
-pub write_part-requires : goal.write_part-requires
-write_part-requires g c =
-    record {
-      room = g.R.Receiver.reception.back _ _ (_ ∷ _ ∷ _ ∷ []) _ c.requires (rw (c.extra_at.ensures, c.inside_at.ensures, c.given_as-b.ensures, c.in_block.ensures) at c.write_claim.ensures);
-      small = omega arith;
-    }
+pub write_part-requires-clause-room : goal.write_part-requires-clause-room
+write_part-requires-clause-room g c =
+    g.R.Receiver.reception.back _ _ (_ ∷ _ ∷ _ ∷ []) _ c.requires (rw (c.extra.ensures, c.inside_at.ensures, c.given-b.ensures, c.second.ensures) at c.write_claim.ensures)
 
 pub returns : goal.returns
 returns g c =
-    g.R.Receiver.reception.join _ _ _ (_ ∷ _ ∷ _ ∷ []) _ (rw (c.extra_at.ensures, c.inside_at.ensures, c.given_as-b.ensures, c.in_block.ensures) at c.write_claim.ensures) c.write_part.ensures
+    g.R.Receiver.reception.join _ _ _ (_ ∷ _ ∷ _ ∷ []) _ (rw (c.extra.ensures, c.inside_at.ensures, c.given-b.ensures, c.second.ensures) at c.write_claim.ensures) c.write_part.ensures

@@ -1,4 +1,4 @@
-use Rattle.std.proofs.Common.{[], ◌∷◌, arith}
+use Rattle.std.proofs.Common.{[], ◌∷◌}
 use Rattle.mtl.specs.Shapes.{given}
 use Rattle.mtl.specs.Lists.{around, seen}
 use Rattle.encode.specs.Parts.{linked, lits_b, lits_e}
@@ -16,17 +16,14 @@ write_seen-requires g c =
     m.back _ _ (around c.args.p.k (linked c.args.p c.args.by)) (seen c.args.p.k (lits_e c.args.p) (λ i. given c.args.v (lits_b c.args.p i)))
     (m.front _ _ (_ ∷ []) c.requires) c.write_around.ensures
 
-pub put_clause-requires : goal.put_clause-requires
-put_clause-requires g c =
+pub put_clause-requires-clause-room : goal.put_clause-requires-clause-room
+put_clause-requires-clause-room g c =
     let m = g.R.Receiver.reception in
     let two = m.join _ _ _ _ _ c.write_around.ensures c.write_seen.ensures in
-    record {
-      room = rw (c.opposite.ensures, c.given_as-last.ensures, c.in_block.ensures, c.extra_at.ensures) (m.back _ _ _ (_ ∷ []) c.requires two);
-      small = omega arith;
-    }
+    rw (c.opposite.ensures, c.given-last.ensures, c.own.ensures, c.extra.ensures) (m.back _ _ _ (_ ∷ []) c.requires two)
 
 pub returns : goal.returns
 returns g c =
     let m = g.R.Receiver.reception in
     let two = m.join _ _ _ _ _ c.write_around.ensures c.write_seen.ensures in
-    m.join _ _ _ _ (_ ∷ []) two (rw (c.opposite.ensures, c.given_as-last.ensures, c.in_block.ensures, c.extra_at.ensures) at c.put_clause.ensures)
+    m.join _ _ _ _ (_ ∷ []) two (rw (c.opposite.ensures, c.given-last.ensures, c.own.ensures, c.extra.ensures) at c.put_clause.ensures)

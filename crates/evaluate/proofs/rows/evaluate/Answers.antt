@@ -11,24 +11,21 @@ use Rattle.evaluate.proofs.rows.evaluate.Goals as goal
 pub write_row-requires : goal.write_row-requires
 write_row-requires c =
     let p : c.loop-n.n + 1 ≤ length c.args.rows.now = omega arith in
-    let q = mul-le-mul_right (c.args.k + 1) p in
+    let q = mul-le-mul_right (c.args.run.now.lasso.bound + 1) p in
     record {
-      sizes = (omega arith, (omega arith, (c.requires.sizes.1.1.0, (omega arith, omega arith))));
-      room = (omega arith, ready c.args.rows.now c.requires.room.1 c.loop-n.n (omega arith));
+      sizes = (omega arith, omega arith, omega arith, ready c.args.rows.now c.requires.1 c.loop-n.n (omega arith));
       known_before = c.loop-n.invariant.1;
     }
 
-pub settled_at-requires : goal.settled_at-requires
-settled_at-requires c =
-    let p : c.loop-n.n + 1 ≤ length c.args.rows.now = omega arith in
-    let q = mul-le-mul_right (c.args.k + 1) p in
-    (omega arith, (omega arith, (omega arith, (omega arith, ready c.args.rows.now c.requires.room.1 c.loop-n.n (omega arith)))))
+pub closes_on-requires : goal.closes_on-requires
+closes_on-requires c =
+    (omega arith, ready c.args.rows.now c.requires.1 c.loop-n.n (omega arith))
 
-pub returns-then-not-settled_at : goal.returns-then-not-settled_at
-returns-then-not-settled_at c =
-    let k = c.args.k in let l = c.args.l in let n = c.loop-n.n in let ls = c.args.letters.now in let rows = c.args.rows.now in
-    let d = settled_right k l (omega arith) ls c.write_row.new.work (older rows n) n c.write_row.ensures.known (row_at rows n) (ready rows c.requires.room.1 n (omega arith)).0 c.write_row.ensures.written c.settled_at.result c.settled_at.ensures in
-    let fails : SettledRow k l (word k l (has ls)) (formula (older rows n)) (row_at rows n) → ⊥ = λ s. both_ways c.settled_at.result c.if-not-settled_at.true (d.1 s) in
+pub returns-then-not-closes_on : goal.returns-then-not-closes_on
+returns-then-not-closes_on c =
+    let k = c.args.run.now.lasso.bound in let l = c.args.run.now.lasso.start in let n = c.loop-n.n in let ls = c.args.run.now.letters.now in let rows = c.args.rows.now in
+    let d = settled_right k l (omega arith) ls c.write_row.new.work (older rows n) n c.write_row.ensures.known (row_at rows n) (ready rows c.requires.1 n (omega arith)).0 c.write_row.ensures.written c.closes_on.result c.closes_on.ensures in
+    let fails : SettledRow k l (word k l (has ls)) (formula (older rows n)) (row_at rows n) → ⊥ = λ s. both_ways c.closes_on.result c.if-not-closes_on.true (d.1 s) in
     record {
       row = omega arith;
       earlier = c.loop-n.invariant.0;
@@ -38,19 +35,19 @@ returns-then-not-settled_at c =
 
 pub loop-n-preserved : goal.loop-n-preserved
 loop-n-preserved c =
-    let k = c.args.k in let l = c.args.l in let n = c.loop-n.n in let ls = c.args.letters.now in let rows = c.args.rows.now in
+    let k = c.args.run.now.lasso.bound in let l = c.args.run.now.lasso.start in let n = c.loop-n.n in let ls = c.args.run.now.letters.now in let rows = c.args.rows.now in
     let work = c.write_row.new.work in
     let h : l ≤ k = omega arith in
-    let d = settled_right k l h ls work (older rows n) n c.write_row.ensures.known (row_at rows n) (ready rows c.requires.room.1 n (omega arith)).0 c.write_row.ensures.written c.settled_at.result c.settled_at.ensures in
-    let s : Settled k l (word k l (has ls)) (row_at rows n ∷ older rows n) = (c.loop-n.invariant.0, d.0 c.if-not-settled_at.false) in
+    let d = settled_right k l h ls work (older rows n) n c.write_row.ensures.known (row_at rows n) (ready rows c.requires.1 n (omega arith)).0 c.write_row.ensures.written c.closes_on.result c.closes_on.ensures in
+    let s : Settled k l (word k l (has ls)) (row_at rows n ∷ older rows n) = (c.loop-n.invariant.0, d.0 c.if-not-closes_on.false) in
     let e = older_more rows n (omega arith) in (
       subst (λ (rs : List Row). Settled k l (word k l (has ls)) rs) (sym e) s,
-      subst (λ (rs : List Row). Known k l ls rs work (n + 1)) (sym e) (known_more k l h ls work rows c.requires.room.1 n (omega arith) c.write_row.ensures.known c.write_row.ensures.written s),
+      subst (λ (rs : List Row). Known k l ls rs work (n + 1)) (sym e) (known_more k l h ls work rows c.requires.1 n (omega arith) c.write_row.ensures.known c.write_row.ensures.written s),
     )
 
 pub returns : goal.returns
 returns c =
-    let k = c.args.k in let l = c.args.l in let n = c.loop-n.n in let ls = c.args.letters.now in let rows = c.args.rows.now in
+    let k = c.args.run.now.lasso.bound in let l = c.args.run.now.lasso.start in let n = c.loop-n.n in let ls = c.args.run.now.letters.now in let rows = c.args.rows.now in
     let e : older rows n ≡ reverse rows = ap reverse (take_all n rows (omega arith)) in
     let z : n ≡ length rows = omega arith in
     record {

@@ -5,5 +5,5 @@ use Rattle.evaluate.proofs.rows.evaluate.Given as goal
 
 abbrev pub invariant-loop-n : goal.invariant-loop-n
 invariant-loop-n l =
-    Settled l.k l.l (word l.k l.l (has l.letters)) (older l.rows l.n)
-    × Known l.k l.l l.letters (older l.rows l.n) l.work l.n
+    Settled l.run.lasso.bound l.run.lasso.start (word l.run.lasso.bound l.run.lasso.start (has l.run.letters.now)) (older l.rows l.n)
+    × Known l.run.lasso.bound l.run.lasso.start l.run.letters.now (older l.rows l.n) l.work l.n

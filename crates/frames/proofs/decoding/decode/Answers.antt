@@ -1,47 +1,67 @@
-use Rattle.std.proofs.Common.{◌+◌, ◌*◌, ◌<◌, length, take, drop, sym, refl, ap, ◌∙◌, arith}
-use Rattle.std.proofs.lemmas.List.{take_more_set, length-set}
+use Rattle.std.proofs.Common.{◌≡◌, [], ◌∷◌, length, None, Err, sym, ap, ◌∙◌, arith, length-append}
+use Rattle.std.proofs.lemmas.Result.{err_from_is_err_and}
+use Rattle.std.specs.Slice.Iter.{chunks_exact_rest, chunks_exact_size}
+use Rattle.bounded.specs.Items.{items}
+use Rattle.std.specs.Option.{ok_or}
+use Rattle.frames.specs.declared.refusals.Refusal.TheVariants.{Digits}
+use Rattle.frames.specs.Held.{held}
 use Rattle.frames.specs.Hex.{bytes, front}
-use Rattle.frames.proofs.Framing.{prepend, bytes_step, all-bytes, prepend_nil, prepend_front, length-within, framed-length, framed_none, framed_open, framed-closed}
+use Rattle.frames.specs.Lines.{mapped}
+use Rattle.frames.proofs.Framing.{prepend, bytes_step, all-bytes, prepend_nil, prepend_front, framed_none, framed_open, framed-closed}
 use Rattle.frames.proofs.decoding.decode.Goals as goal
 
-pub returns-then-not-is_frame_length : goal.returns-then-not-is_frame_length
-returns-then-not-is_frame_length c = framed-length c.args.line.now (sym c.if-not-is_frame_length.ensures)
-
-pub loop-i-init : goal.loop-i-init
-loop-i-init c = (refl, sym (prepend_nil _))
-
-pub returns-in-None : goal.returns-in-None
-returns-in-None c =
+pub loop-pair-init : goal.loop-pair-init
+loop-pair-init c =
     let line = c.args.line.now in
-    let i = c.loop-i.i in
-    let h : 2 * i + 1 < length line = omega arith in
-    let b = c.in-None.ensures in
-    framed_none line (sym c.if-not-is_frame_length.ensures)
-    (c.loop-i.invariant.1 ∙ ap (prepend (take i c.loop-i.bytes)) (bytes_step line i h ∙ ap (λ o. front o (bytes (drop (2 * (i + 1)) line))) (sym b)))
+    let made = c.into_iter-pair-iterator.ensures.into_iter_gives in
+    let two : chunks_exact_size c.into_iter-pair-iterator.result ≡ 2 = ap chunks_exact_size made ∙ c.chunks_exact-pair-items.ensures.size in
+    let rest : chunks_exact_rest c.into_iter-pair-iterator.result ≡ line = ap chunks_exact_rest made ∙ c.chunks_exact-pair-items.ensures.rest in
+    record {
+      can = omega (arith, two);
+      ends = tt;
+      two = two;
+      half = omega (arith, ap length rest, ap length c.new-bytes.ensures);
+      read = sym (prepend_nil (bytes line)) ∙ ap (λ cs. prepend [] (bytes cs)) (sym rest) ∙ ap (λ xs. prepend xs (bytes (chunks_exact_rest c.into_iter-pair-iterator.result))) (sym c.new-bytes.ensures);
+    }
 
-pub loop-i-preserved : goal.loop-i-preserved
-loop-i-preserved c =
-    let line = c.args.line.now in
-    let i = c.loop-i.i in
-    let h : 2 * i + 1 < length line = omega arith in
-    let b = c.in-Some.ensures in
-    let within = length-within (length line) (sym c.if-not-is_frame_length.ensures) in
-    let k : i < length c.loop-i.bytes = omega (arith, c.loop-i.invariant.0, within.1) in
-    let rest = bytes (drop (2 * (i + 1)) line) in (
-      length-set c.loop-i.bytes i c.in-Some.b ∙ c.loop-i.invariant.0,
-      c.loop-i.invariant.1 ∙ ap (prepend (take i c.loop-i.bytes)) (bytes_step line i h ∙ ap (λ o. front o rest) (sym b))
-          ∙ prepend_front (take i c.loop-i.bytes) c.in-Some.b rest
-          ∙ ap (λ l. prepend l rest) (sym (take_more_set c.loop-i.bytes i c.in-Some.b k)),
-    )
+pub returns-in_err-b : goal.returns-in_err-b
+returns-in_err-b c =
+    let p = err_from_is_err_and c.from_residual.result c.from_residual.ensures.1 in
+    let i = c.loop-pair.invariant in
+    let s = c.in-Some.ensures.steps in
+    let xs = items c.loop-pair.bytes in
+    let rest = bytes (chunks_exact_rest c.next.new.self) in
+    let step = bytes_step _ c.in-Some.pair.now _ s.1.0 (s.1.1 ∙ i.two) in
+    let none : bytes c.args.line.now ≡ None = i.read ∙ ap (prepend xs) (step ∙ ap (λ o. front o rest) (sym c.byte_of.ensures ∙ c.in_err-b.ensures.ok_part)) in
+    let refusal = c.in_err-b.ensures.value ∙ ap (λ o. ok_or o Digits) c.in_err-b.ensures.ok_part in
+    let digits : c.in_err-b.field-0.0 ≡ Digits = cc in
+    ap (mapped held) p.1 ∙ ap Err (p.2 ∙ digits) ∙ framed_none c.args.line.now (sym c.if-not-is_frame_length.ensures) none
+
+pub loop-pair-preserved : goal.loop-pair-preserved
+loop-pair-preserved c =
+    let i = c.loop-pair.invariant in
+    let s = c.in-Some.ensures.steps in
+    let xs = items c.loop-pair.bytes in
+    let rest = bytes (chunks_exact_rest c.next.new.self) in
+    let step = bytes_step _ c.in-Some.pair.now _ s.1.0 (s.1.1 ∙ i.two) in
+    let some = sym c.byte_of.ensures ∙ c.in_ok-b.ensures.ok_part in
+    let two : chunks_exact_size c.next.new.self ≡ 2 = s.0 ∙ i.two in
+    record {
+      can = omega (arith, two);
+      ends = tt;
+      two = two;
+      half = omega (arith, i.half, ap length c.push.ensures, length-append xs (c.in_ok-b.b ∷ []), ap length s.1.0, length-append c.in-Some.pair.now (chunks_exact_rest c.next.new.self), s.1.1, i.two);
+      read = i.read ∙ ap (prepend xs) (step ∙ ap (λ o. front o rest) some) ∙ prepend_front xs c.in_ok-b.b rest ∙ ap (λ l. prepend l rest) (sym c.push.ensures);
+    }
 
 pub returns-then-is_closed : goal.returns-then-is_closed
 returns-then-is_closed c =
-    let line = c.args.line.now in
     let long = sym c.if-not-is_frame_length.ensures in
-    framed-closed line _ long (all-bytes line c.loop-i.bytes c.loop-i.i long (omega arith) c.loop-i.invariant.1) (sym c.if-is_closed.ensures)
+    let i = c.loop-pair.invariant in
+    framed-closed c.args.line.now _ long (all-bytes c.args.line.now _ _ long i.half (omega (arith, c.in-None.ensures.steps.1.0, i.two)) i.read) (sym c.if-is_closed.ensures)
 
 pub returns-else-is_closed : goal.returns-else-is_closed
 returns-else-is_closed c =
-    let line = c.args.line.now in
     let long = sym c.if-not-is_frame_length.ensures in
-    framed_open line _ long (all-bytes line c.loop-i.bytes c.loop-i.i long (omega arith) c.loop-i.invariant.1) (sym c.if-is_closed.ensures)
+    let i = c.loop-pair.invariant in
+    framed_open c.args.line.now _ long (all-bytes c.args.line.now _ _ long i.half (omega (arith, c.in-None.ensures.steps.1.0, i.two)) i.read) (sym c.if-is_closed.ensures)

@@ -4,8 +4,7 @@ use Rattle.frames.specs.Written.{spelled}
 use Rattle.frames.proofs.Sealing.{write_read}
 use Rattle.frames.proofs.writing.write.Goals as goal
 
-pub returns : goal.returns
-returns g c =
+pub returns-clause-back : goal.returns-clause-back
+returns-clause-back g c =
     let k = g.K.Kind.layout in
-    let v = c.encode.ensures ∙ ap spelled c.seal.ensures.value in
-    record { value = v; back = ap (reading k) v ∙ write_read k g.met.K.Kind.lawful c.args.x c.seal.ensures.small }
+    ap (reading k) (c.encode.ensures ∙ ap spelled c.seal.ensures.value) ∙ write_read k g.met.K.Kind.lawful c.args.x c.seal.ensures.small

@@ -6,4 +6,4 @@ use Rattle.mtl.proofs.cells.begin_longest.Goals as goal
 pub returns : goal.returns
 returns c =
     let k = c.args.k in
-    omega (arith, sized.begins_longest k, c.if_any.ensures, ap (if_any k) c.shape_longest-2.ensures.value)
+    omega (arith, sized.begins_longest k, c.if_any.ensures, ap (if_any k) c.shape_size-2.ensures.longest)

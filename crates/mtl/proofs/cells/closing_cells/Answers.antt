@@ -1,17 +1,9 @@
-use Rattle.std.proofs.Common.{suc, arith}
+use Rattle.std.proofs.Common.{add-one, rules, arith}
 use Rattle.mtl.specs.Sizes.{total, closed_cells_at}
-use Rattle.mtl.proofs.Sizes.{sum_more}
 use Rattle.mtl.proofs.cells.closing_cells.Goals as goal
 
-pub loop-l-preserved : goal.loop-l-preserved
-loop-l-preserved c = (
-  sum_more (λ l. total 0 c.args.t (closed_cells_at l)) c.loop-l.l _ _ _ c.loop-l.invariant.0 c.closed_cells-sum.ensures.value (omega arith),
-  omega (arith, c.loop-l.invariant.1, c.closed_cells-sum.ensures.small),
-)
+pub returns-clause-value : goal.returns-clause-value
+returns-clause-value c = rw add-one at (c.total.ensures.value (λ l. total 0 c.args.t (closed_cells_at l)) (λ i y h p. search rules))
 
-pub returns-2 : goal.returns-2
-returns-2 c =
-    record {
-      value = sum_more (λ l. total 0 c.args.t (closed_cells_at l)) c.loop-l.l (suc c.args.k) _ _ c.loop-l.invariant.0 c.closed_cells-sum.ensures.value (omega arith);
-      small = omega (arith, c.loop-l.invariant.1, c.closed_cells-sum.ensures.small);
-    }
+pub returns-clause-small : goal.returns-clause-small
+returns-clause-small c = omega (arith, c.total.ensures.small 2040 (λ i y h p. search rules))

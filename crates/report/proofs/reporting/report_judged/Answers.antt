@@ -1,18 +1,21 @@
-use Rattle.std.proofs.Common.{sym, ◌∙◌, arith}
+use Rattle.std.proofs.Common.{Err, sym, ap, ◌∙◌, arith}
+use Rattle.std.proofs.lemmas.Result.{err_from_is_err_and}
 use Rattle.report.proofs.Verdicts.{shows, asked, told_stop, told_out, told_run}
 use Rattle.report.proofs.reporting.report_judged.Goals as goal
 
-pub returns-in-Err : goal.returns-in-Err
-returns-in-Err c = told_stop c.new.ensures c.drive_script.ensures c.in-Err.stop c.stopped_at.result c.in-Err.is c.stopped_at.ensures
+pub returns-in_err-outcome : goal.returns-in_err-outcome
+returns-in_err-outcome c =
+    let told = err_from_is_err_and c.from_residual.result c.from_residual.ensures.1 in
+    told_stop c.new.ensures c.drive_script.ensures _ c.from_residual.result c.in_err-outcome.was (told.1 ∙ ap Err told.2)
 
-pub returns-then-clause-gt0 : goal.returns-then-clause-gt0
-returns-then-clause-gt0 c = told_out c.new.ensures c.drive_script.ensures c.first_false-clause.result c.in_default.is c.first_false-clause.ensures c.if-clause-gt0.true
-
-pub report_letters-requires : goal.report_letters-requires
-report_letters-requires c = record {
-  shows = shows c.new.ensures c.drive_script.ensures (sym c.first_false-clause.ensures ∙ omega (arith, c.if-clause-gt0.false));
+pub report_run-requires : goal.report_run-requires
+report_run-requires c = record {
+  shows = shows c.new.ensures c.drive_script.ensures (sym c.first_false.ensures.number ∙ c.in-0.is);
   asked = asked c.new.ensures c.drive_script.ensures;
 }
 
-pub returns : goal.returns
-returns c = told_run c.new.ensures c.drive_script.ensures c.first_false-clause.result c.report_letters.result c.in_default.is c.first_false-clause.ensures (omega (arith, c.if-clause-gt0.false)) c.report_letters.ensures
+pub returns-in-0 : goal.returns-in-0
+returns-in-0 c = told_run c.new.ensures c.drive_script.ensures c.first_false.result c.report_run.result c.in_ok-outcome.was c.first_false.ensures.number c.in-0.is c.report_run.ensures
+
+pub returns-in_default : goal.returns-in_default
+returns-in_default c = told_out c.new.ensures c.drive_script.ensures c.first_false.result c.in_ok-outcome.was c.first_false.ensures.number (omega arith)

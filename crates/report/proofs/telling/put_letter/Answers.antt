@@ -10,7 +10,7 @@ pub returns : goal.returns
 unfolding letter_line
 returns c =
     let s = c.args.output.now in
-    let frame = c.as_slice.ensures ∙ c.write.ensures.value in
+    let frame = c.as_slice.ensures ∙ c.write-frame.ensures.value in
     let put = c.put_bytes-feed.ensures in
     record {
       area = over_next s _ _ c.args.at _ (written letter_layout (record { instant = c.args.instant; signals = c.args.signals })) (10 ∷ []) (omega arith) (put.area ∙ ap (over s c.args.at) frame) (put.end ∙ ap (λ x. c.args.at + length x) frame) c.put.ensures.area;

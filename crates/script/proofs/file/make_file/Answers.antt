@@ -1,40 +1,41 @@
-use Rattle.std.proofs.Common.{◌+◌, ◌≤◌, length, sym, ap, ◌∙◌, arith}
+use Rattle.std.proofs.Common.{◌+◌, ◌≤◌, length, Err, sym, ap, ◌∙◌, arith}
 use Rattle.std.proofs.lemmas.List.{length-take-le}
-use Rattle.script.proofs.Filing.{heading-short, same_name, same_length, refused, accepted}
+use Rattle.std.proofs.lemmas.Result.{err_from_is_err_and}
+use Rattle.script.specs.Files.{heading}
+use Rattle.script.proofs.Filing.{same_name, lines_fit, front_short, refused, accepted}
 use Rattle.script.proofs.file.make_file.Goals as goal
-use Rattle.script.proofs.file.make_file.Goals.{After-text}
+use Rattle.script.proofs.file.make_file.Goals.{After-count, After-text}
 
-pub shape_of-work-in-Err-1 : goal.shape_of-work-in-Err-1
-shape_of-work-in-Err-1 c = sym c.new-writer.ensures.name ∙ sym (same_name c.drive_script_lent-outcome.ensures)
+pub shape_of-work-in-Break-1 : goal.shape_of-work-in-Break-1
+shape_of-work-in-Break-1 c = sym c.new-writer.ensures.name ∙ sym (same_name c.drive_script_lent-outcome.ensures)
 
-pub put_pair-lines-requires : goal.put_pair-lines-requires
-put_pair-lines-requires c =
-    let w = c.drive_script_lent-outcome.new.sink in
-    let area = same_length c.drive_script_lent-outcome.ensures ∙ ap length c.new-writer.ensures.new.bytes in
-    omega (arith, heading-short c.highest-highest.result c.count.result (omega (arith, c.highest-highest.ensures.bound)) (omega (arith, c.count.ensures, w.written.0, w.written.2, area, c.told-work)), c.told-output)
+pub returns-in_err-outcome-clause-filed : goal.returns-in_err-outcome-clause-filed
+returns-in_err-outcome-clause-filed c =
+    let p = err_from_is_err_and c.from_residual.result c.from_residual.ensures.1 in
+    refused c.drive_script_lent-outcome.ensures c.args.work.now c.args.output.now c.new-writer.ensures.new _ c.from_residual.result c.in_err-outcome.was (p.1 ∙ ap Err p.2)
+
+short : (c : After-count) → length (heading c.from-highest.result c.count.result) ≤ 17
+short c =
+    front_short c.drive_script_lent-outcome.ensures c.args.work.now c.args.output.now c.new-writer.ensures.new c.told-work c.from-highest.result c.count.result (omega (arith, c.from-highest.ensures, c.highest.ensures.bound)) c.count.ensures
+
+pub put_pair-heading-requires : goal.put_pair-heading-requires
+put_pair-heading-requires c = omega (arith, short c, c.told-output)
 
 -- the file's length, where the lines are behind the heading
-room : (c : After-text) → c.put_pair-lines.result + length c.text.result.now ≤ 60020
+room : (c : After-text) → c.put_pair-heading.result + length c.text.result.now ≤ 60020
 room c =
     let w = c.drive_script_lent-outcome.new.sink in
-    let area = same_length c.drive_script_lent-outcome.ensures ∙ ap length c.new-writer.ensures.new.bytes in
-    let short = heading-short c.highest-highest.result c.count.result (omega (arith, c.highest-highest.ensures.bound)) (omega (arith, c.count.ensures, w.written.0, w.written.2, area, c.told-work)) in
-    omega (arith, short, ap length c.text.ensures, length-take-le w.used w.area.now w.written.0, w.written.0, area, c.put_pair-lines.ensures.end, c.told-work)
+    let few = lines_fit c.drive_script_lent-outcome.ensures c.args.work.now c.args.output.now c.new-writer.ensures.new c.told-work in
+    omega (arith, short (goal.at.put_bytes-requires c).After-count, ap length c.text.ensures, length-take-le w.used w.area.now w.written.0, few, c.put_pair-heading.ensures.end)
 
 pub put_bytes-requires : goal.put_bytes-requires
 put_bytes-requires c = omega (arith, room c, c.told-output)
 
-pub shape_of-work-in-Ok : goal.shape_of-work-in-Ok
-shape_of-work-in-Ok c = sym c.new-writer.ensures.name ∙ sym (same_name c.drive_script_lent-outcome.ensures)
+pub shape_of-work : goal.shape_of-work
+shape_of-work c = sym c.new-writer.ensures.name ∙ sym (same_name c.drive_script_lent-outcome.ensures)
 
-pub returns-in-Err : goal.returns-in-Err
-returns-in-Err c = record {
-  filed = refused c.drive_script_lent-outcome.ensures c.args.work.now c.args.output.now c.new-writer.ensures.new c.in-Err.stop c.in-Err.is;
-  fits = tt;
-}
-
-pub returns-in-Ok : goal.returns-in-Ok
-returns-in-Ok c = record {
-  filed = accepted c.drive_script_lent-outcome.ensures c.args.work.now c.args.output.now c.new-writer.ensures.new c.highest-highest.result c.count.result c.put_pair-lines.result c.put_bytes.result c.put_pair-lines.new.area c.put_bytes.new.area c.text.result.now c.in-Ok.is c.highest-highest.ensures.value c.count.ensures c.put_pair-lines.ensures.area c.put_pair-lines.ensures.end c.text.ensures c.put_bytes.ensures.area c.put_bytes.ensures.end;
-  fits = omega (arith, room (goal.at.returns-in-Ok c).After-text, c.put_bytes.ensures.end);
+pub returns : goal.returns
+returns c = record {
+  filed = accepted c.drive_script_lent-outcome.ensures c.args.work.now c.args.output.now c.new-writer.ensures.new c.from-highest.result c.count.result c.put_pair-heading.result c.put_bytes.result c.put_pair-heading.new.area c.put_bytes.new.area c.text.result.now c.in_ok-outcome.was (c.from-highest.ensures ∙ c.highest.ensures.value) c.count.ensures c.put_pair-heading.ensures.area c.put_pair-heading.ensures.end c.text.ensures c.put_bytes.ensures.area c.put_bytes.ensures.end;
+  fits = omega (arith, room (goal.at.returns c).After-text, c.put_bytes.ensures.end);
 }

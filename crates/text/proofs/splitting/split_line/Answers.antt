@@ -1,14 +1,9 @@
-use Rattle.std.proofs.Common.{rules}
-use Rattle.std.proofs.lemmas.List.{nil_from_length}
-use Rattle.std.proofs.lemmas.Bool.{eqb-true}
-use Rattle.text.proofs.Splits.{lines_cut, lines_whole, shorter_after}
+use Rattle.std.proofs.Common.{refl, sym, arith, length}
+use Rattle.std.proofs.lemmas.Bool.{eqb-false}
+use Rattle.text.proofs.Splits.{first_line}
 use Rattle.text.proofs.splitting.split_line.Goals as goal
 
-pub returns-then-is_empty : goal.returns-then-is_empty
-returns-then-is_empty c = search (rules, nil_from_length, eqb-true)
-
-pub returns-then-i-text : goal.returns-then-i-text
-returns-then-i-text c = (search (rules, lines_cut), search (rules, shorter_after))
-
-pub returns-else-i-text : goal.returns-else-i-text
-returns-else-i-text c = (search (rules, lines_whole), search rules)
+pub returns : goal.returns
+returns c =
+    rw c.or.ensures
+    (first_line c.args.text.now c.split_once.result _ refl refl (omega (arith, eqb-false (length c.args.text.now) 0 (sym c.if-is_empty.ensures))) c.split_once.ensures)

@@ -1,9 +1,10 @@
-use Rattle.std.proofs.Common.{rules}
-use Rattle.text.proofs.Splits.{words_cut, words_whole, shorter_after}
+use Rattle.std.proofs.Common.{ap, ◌∙◌}
+use Rattle.text.specs.Split.{words}
+use Rattle.text.proofs.Splits.{words-front, whole_word}
 use Rattle.text.proofs.splitting.split_word.Goals as goal
 
-pub returns-then-i-line : goal.returns-then-i-line
-returns-then-i-line c = record { first = search (rules, words_cut); shorter = search (rules, shorter_after) }
+pub returns-in-Some-clause-first : goal.returns-in-Some-clause-first
+returns-in-Some-clause-first c = ap words c.in-Some.ensures.1 ∙ words-front c.in-Some.word.now c.in-Some.rest.now c.in-Some.ensures.0
 
-pub returns-else-i-line : goal.returns-else-i-line
-returns-else-i-line c = record { first = search (rules, words_whole); shorter = tt }
+pub returns-in-None-clause-first : goal.returns-in-None-clause-first
+returns-in-None-clause-first c = whole_word c.args.line.now c.in-None.ensures

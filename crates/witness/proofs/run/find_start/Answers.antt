@@ -1,17 +1,34 @@
-use Rattle.std.proofs.Common.{true, false, get_or, sym, ◌∙◌, arith}
-use Rattle.std.proofs.lemmas.Bool.{eq-eqb, ne_eqb}
-use Rattle.witness.proofs.Reading.{start_step}
+use Rattle.std.proofs.Common.{◌≡◌, ◌+◌, ◌<◌, ◌≤◌, Bool, eqb, length, take, ◌∙◌, subst, arith, rules, tests}
+use Rattle.std.proofs.lemmas.Iterator.{YieldsList-from_slice, IsFirst-from_position}
+use Rattle.std.specs.List.{AllWithin, HoldsAt, IsAnyAnswer}
+use Rattle.witness.proofs.Starts.{rest, no_start, two_starts, one_start_only}
 use Rattle.witness.proofs.run.find_start.Goals as goal
-use Rattle.witness.proofs.run.find_start.Goals.{then-area-i-eq1, else-area-i-eq1}
 
-pub loop-i-preserved : goal.loop-i-preserved
-loop-i-preserved c =
-    let area = c.args.area.now in let i = c.loop-i.i in
-    elim c.if-area-i-eq1.branch [
-      | then-area-i-eq1 w ↦
-          let s = start_step area i true (eq-eqb (get_or area i 0) 1 w.if-area-i-eq1.true) in
-          (omega (arith, w.count-is, s.0, c.loop-i.invariant.0), w.start-is ∙ sym s.1, omega (arith, w.count-is, c.loop-i.invariant.2))
-      | else-area-i-eq1 w ↦
-          let s = start_step area i false (ne_eqb (get_or area i 0) 1 w.if-area-i-eq1.false) in
-          (omega (arith, w.count-is, s.0, c.loop-i.invariant.0), w.start-is ∙ c.loop-i.invariant.1 ∙ sym s.1, omega (arith, w.count-is, c.loop-i.invariant.2))
-    ]
+pub returns-in_err-start : goal.returns-in_err-start
+returns-in_err-start c =
+    let area = c.args.area.now in
+    let n = c.args.k + 1 in
+    let h : n ≤ length area = omega arith in
+    let f : AllWithin (λ b. b ≡ 1 → ⊥) (take n area) 0 (length (take n area)) =
+    IsFirst-from_position _ _ _ (λ b. b ≡ 1) (λ b. b ≡ 1 → ⊥) c.in_err-start.ensures.ran (YieldsList-from_slice _ c.iter.ensures.rest) (λ x q k. search (rules, tests)) (λ x q k. search (rules, tests)) in
+    c.from_residual.ensures ∙ no_start area n h f
+
+pub returns-then-contains : goal.returns-then-contains
+returns-then-contains c =
+    let area = c.args.area.now in
+    let n = c.args.k + 1 in
+    let p = c.in_ok-start.start in
+    let h : n ≤ length area = omega arith in
+    let f : (p < length (take n area)) × HoldsAt (λ b. b ≡ 1) (take n area) p × AllWithin (λ b. b ≡ 1 → ⊥) (take n area) 0 p =
+    IsFirst-from_position _ _ _ (λ b. b ≡ 1) (λ b. b ≡ 1 → ⊥) c.in_ok-start.ensures.ran (YieldsList-from_slice _ c.iter.ensures.rest) (λ x q k. search (rules, tests)) (λ x q k. search (rules, tests)) in
+    two_starts area n h p f.0 f.1 (subst (λ (b : Bool). IsAnyAnswer (λ y b. eqb y 1 ≡ b) (rest area n h p) b) c.if-contains.true c.contains.ensures.cases)
+
+pub returns : goal.returns
+returns c =
+    let area = c.args.area.now in
+    let n = c.args.k + 1 in
+    let p = c.in_ok-start.start in
+    let h : n ≤ length area = omega arith in
+    let f : (p < length (take n area)) × HoldsAt (λ b. b ≡ 1) (take n area) p × AllWithin (λ b. b ≡ 1 → ⊥) (take n area) 0 p =
+    IsFirst-from_position _ _ _ (λ b. b ≡ 1) (λ b. b ≡ 1 → ⊥) c.in_ok-start.ensures.ran (YieldsList-from_slice _ c.iter.ensures.rest) (λ x q k. search (rules, tests)) (λ x q k. search (rules, tests)) in
+    one_start_only area n h p f.0 f.1 f.2 (subst (λ (b : Bool). IsAnyAnswer (λ y b. eqb y 1 ≡ b) (rest area n h p) b) c.if-contains.false c.contains.ensures.cases)

@@ -1,4 +1,5 @@
 use Rattle.std.proofs.Common.{sym, subst}
+use Rattle.std.proofs.lemmas.Result.{err_from_is_err_and}
 use Rattle.mtl.specs.Statements.{Takes}
 use Rattle.mtl.specs.Lists.{begin}
 use Rattle.job.specs.Calls.{with_bound}
@@ -14,16 +15,17 @@ hand_begin-requires g c =
     let j = c.args.self.now in
     let takes = subst (λ n. Takes n (begin c.args.k)) (sym c.highest_at.ensures) (begin_takes (known j) c.args.k) in
     record {
-      room = limits_fit m j.sink (begin c.args.k) c.of_begin-cost.result c.highest_at.result c.of_begin-cost.ensures c.in_default.ensures takes;
+      room = limits_fit m j.sink (begin c.args.k) c.of_begin-cost.result c.highest_at.result c.of_begin-cost.ensures c.in_ok-ask_limits.ensures takes;
       low = c.requires;
     }
 
-pub returns-in-Err : goal.returns-in-Err
-returns-in-Err g c =
+pub returns-in_err-ask_limits : goal.returns-in_err-ask_limits
+returns-in_err-ask_limits g c =
+    let p = err_from_is_err_and c.from_residual.result c.from_residual.ensures.1 in
     let j = c.args.self.now in
-    not_finished g.S.Sink.model j (begin c.args.k) (with_bound (known j) c.args.k) _ c.of_begin-cost.result c.highest_at.result c.of_begin-cost.ensures c.highest_at.ensures c.in-Err.refusal c.in-Err.ensures
+    rw (p.1, p.2) (not_finished g.S.Sink.model j (begin c.args.k) (with_bound (known j) c.args.k) _ c.of_begin-cost.result c.highest_at.result c.of_begin-cost.ensures c.highest_at.ensures c.in_err-ask_limits.field-0.0 c.in_err-ask_limits.ensures)
 
 pub returns : goal.returns
 returns g c =
     let j = c.args.self.now in
-    finished g.S.Sink.model j (begin c.args.k) (with_bound (known j) c.args.k) _ c.of_begin-cost.result c.highest_at.result c.of_begin-cost.ensures c.highest_at.ensures _ c.in_default.ensures c.open.ensures c.hand_begin.ensures
+    finished g.S.Sink.model j (begin c.args.k) (with_bound (known j) c.args.k) _ c.of_begin-cost.result c.highest_at.result c.of_begin-cost.ensures c.highest_at.ensures _ c.in_ok-ask_limits.ensures c.open.ensures c.hand_begin.ensures
