@@ -32,11 +32,11 @@ no_v_line l n = at (after_v (words l)) refl
 pub opened : (ls rest : List (List ℕ)) (l t : List ℕ) → ls ≡ l ∷ rest → l ≡ codes "v " ++ t → numbers ls ≡ join (each (words t)) (numbers rest)
 opened ls rest l t e d = ap numbers (e ∙ ap (λ x. x ∷ rest) d) ∙ ap (λ o. join o (numbers rest)) (numbers_after_v t)
 
-join_nil : (o : Option (List Literal)) → join (Some []) o ≡ o
+pub join_nil : (o : Option (List Literal)) → join (Some []) o ≡ o
 join_nil None = refl
 join_nil (Some ns) = refl
 
-join_front : (n : Option Literal) (o tail : Option (List Literal)) → join (front n o) tail ≡ front n (join o tail)
+pub join_front : (n : Option Literal) (o tail : Option (List Literal)) → join (front n o) tail ≡ front n (join o tail)
 join_front None o tail = refl
 join_front (Some n) None tail = refl
 join_front (Some n) (Some ms) None = refl

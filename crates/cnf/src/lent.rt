@@ -2,6 +2,7 @@
 ghost use Rattle.cnf.specs.Layers.{lent_model};
 
 use crate::clause::Literal;
+use crate::refusal::Refusal;
 use crate::sink::Sink;
 
 impl<'a, S: Sink> Sink for &'a mut S {
@@ -23,7 +24,15 @@ impl<'a, S: Sink> Sink for &'a mut S {
         S::count(*self)
     }
 
+    fn ask(&self, clause: &[Literal]) -> Result<(), Refusal> {
+        S::ask(*self, clause)
+    }
+
     fn accept(&mut self, clause: &[Literal]) {
         S::accept(*self, clause)
+    }
+
+    fn take(&mut self, clause: &[Literal]) -> Result<(), Refusal> {
+        S::take(*self, clause)
     }
 }

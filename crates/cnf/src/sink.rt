@@ -27,22 +27,27 @@ pub trait Sink {
     fn count(&self) -> usize
         ensures { result ≡ model.count self.now };
 
+    // Asks what this sink asks of a clause; the first no is the answer.
+    fn ask(&self, clause: &[Literal]) -> Result<(), Refusal>
+        ensures { result ≡ answer model self.now clause.now }
+    {
+        let longest = (*self).longest_clause();
+        let highest = (*self).highest_variable();
+        let cells = (*self).free_cells();
+        examine(longest, highest, cells, clause)
+    }
+
     // Takes a clause that this sink has no reason to refuse.
     fn accept(&mut self, clause: &[Literal])
         requires { answer model self.old clause.now ≡ Ok tt }
-        ensures { Taken model clause.now self.old self.new };
+        ensures { Taken model clause.now self.old self.new }
+    {
+        let _ = self.take(clause);
+    }
 
     // Takes a clause, or says why not and stays as it was.
     fn take(&mut self, clause: &[Literal]) -> Result<(), Refusal>
         ensures answer { result ≡ answer model self.old clause.now }
         ensures refused { is_ok result ≡ false → self.new ≡ self.old }
-        ensures taken { is_ok result ≡ true → Taken model clause.now self.old self.new }
-    {
-        let longest = (*self).longest_clause();
-        let highest = (*self).highest_variable();
-        let cells = (*self).free_cells();
-        examine(longest, highest, cells, clause)?;
-        self.accept(clause);
-        Ok(())
-    }
+        ensures taken { is_ok result ≡ true → Taken model clause.now self.old self.new };
 }

@@ -63,6 +63,12 @@ impl<S: Sink> Sink for Switch<S> {
         let switched = prefixed(Literal::negated(self.variable), clause);
         self.below.accept(switched.as_slice());
     }
+
+    fn take(&mut self, clause: &[Literal]) -> Result<(), Refusal> {
+        (*self).ask(clause)?;
+        self.accept(clause);
+        Ok(())
+    }
 }
 
 // Hands a clause through a switch to a sink that the caller keeps.

@@ -9,7 +9,7 @@ ghost use Rattle.bounded.specs.Items.{items};
 ghost use Rattle.encode.specs.Parts.{behind, under, claimed, clauses_at};
 
 use super::Receiver;
-use super::part::{Claim, Guard, Part};
+use super::part::{BLANK, Claim, Guard, Part};
 use super::place::Place;
 use super::step::{claim_of, guard_of};
 use bounded::Bounded;
@@ -26,7 +26,7 @@ pub fn put_clause<R: Receiver>(
     requires small { length rest.now ≤ 32 }
     ensures { R.Receiver.reception.took out.old (behind guard (first ∷ rest.now) ∷ []) out.new }
 {
-    let mut clause: Bounded<Literal, 40> = Bounded::new(first);
+    let mut clause: Bounded<Literal, 40> = Bounded::new(BLANK);
     if let Some(literal) = guard {
         clause.push(literal.opposite());
     }
@@ -49,7 +49,7 @@ fn opposites(literals: &[Literal]) -> Bounded<Literal, 32>
     requires { length literals.now ≤ 32 }
     ensures { items result ≡ map opposite literals.now }
 {
-    let mut flipped = Bounded::new(Literal::asserted(0));
+    let mut flipped = Bounded::new(BLANK);
     for literal in literals {
         flipped.push(literal.opposite());
     }

@@ -7,6 +7,12 @@ use super::instant::Instant;
 use bounded::Bounded;
 use cnf::clause::Literal;
 
+// Fills the places of a list that hold no literal yet. All its bytes are zero: such places are filled at once.
+pub const BLANK: Literal = Literal {
+    variable: 0,
+    positive: false,
+};
+
 // Data, as the parts with a link are: how a row's value at one instant follows from its value, or its operand's, at another.
 #[derive(Clone, Copy)]
 pub enum Link {

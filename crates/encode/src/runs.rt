@@ -6,6 +6,7 @@ ghost use Rattle.mtl.specs.Lists.{starts, ahead};
 ghost use Rattle.encode.specs.Parts.{lits_a, lits_e, Gives};
 
 use super::instant::Instant;
+use super::part::BLANK;
 use super::place::Place;
 use bounded::Bounded;
 use cnf::clause::Literal;
@@ -17,7 +18,7 @@ fn listed<F: Fn(u8) -> Literal>(count: u8, literal_at: F) -> Bounded<Literal, 32
     requires few { count ≤ 32 }
     ensures { (f : Lits) → Gives (F.post literal_at) count f → items result ≡ span f 0 count }
 {
-    let mut literals = Bounded::new(Literal::asserted(0));
+    let mut literals = Bounded::new(BLANK);
     for j in 0..count {
         literals.push(literal_at(j));
     }

@@ -15,7 +15,7 @@ pub cell_is : (k : ℕ) (work : List ℕ) (m j : ℕ) → j ≤ k → cell k wor
 cell_is k work m j h = let c : j < k + 1 = omega arith in rw (get_or-take, get_or-drop)
 
 -- a line ends where the lines up to it end
-within : (k n h : ℕ) → n < h → n * (k + 1) + (k + 1) ≤ h * (k + 1)
+pub within : (k n h : ℕ) → n < h → n * (k + 1) + (k + 1) ≤ h * (k + 1)
 within k n h c =
     let p : suc n ≤ h = omega arith in
     omega (arith, mul-le-mul_right (k + 1) p, suc-mul n (k + 1))

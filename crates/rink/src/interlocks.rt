@@ -93,11 +93,12 @@ fn judge_all(
             .take(&rule.clause)
             .or_else(|refusal| say_refused(rt, refusal))?;
     }
-    let fault = judge.first_false();
-    match fault.checked_sub(1).and_then(|place| rules.get(place)) {
-        None => println!(rt; "{name}: in")?,
-        Some(rule) => {
-            println!(rt; "{name}: out, interlock {fault} is broken: {}", rule.words)?;
+    match judge.first_false() {
+        0 => println!(rt; "{name}: in")?,
+        fault => {
+            if let Some(rule) = rules.get(fault - 1) {
+                println!(rt; "{name}: out, interlock {fault} is broken: {}", rule.words)?;
+            }
         }
     }
     Ok(())

@@ -17,7 +17,7 @@ use Rattle.script.specs.declared.refusal.Stop.{Stop}
 use Rattle.script.specs.Scripts.{clauses, DroveScript}
 use Rattle.script.specs.Files.{heading, file, FileStands, Made, Filed}
 
-heading-short : (v n : ℕ) → v < 10000 → n < 100000 → length (heading v n) ≤ 17
+pub heading-short : (v n : ℕ) → v < 10000 → n < 100000 → length (heading v n) ≤ 17
 heading-short v n h k = omega (arith, pair_long (codes "p cnf ") v n, length-decimal-le 4 v (omega arith) h (omega arith), length-decimal-le 5 n (omega arith) k (omega arith))
 
 -- a writer keeps the area that it was lent, and its length

@@ -44,8 +44,10 @@ fn show_lengths(rt: &HostRuntime) -> io::Result<()> {
         ("forty literals", &clause[0..40]),
         ("forty-one literals", &clause),
     ];
+    // one area for all, so that a writer also begins over the bytes of an earlier one
+    let mut area = [0; 400];
     for (name, clause) in cases {
-        show_writer(rt, name, &mut [0; 400], clause)?;
+        show_writer(rt, name, &mut area, clause)?;
     }
     Ok(())
 }
@@ -61,8 +63,10 @@ fn show_variables(rt: &HostRuntime) -> io::Result<()> {
             &[Literal::asserted(1), Literal::asserted(0)],
         ),
     ];
+    // one area for all, so that a writer also begins over the bytes of an earlier one
+    let mut area = [0; 400];
     for (name, clause) in cases {
-        show_writer(rt, name, &mut [0; 400], clause)?;
+        show_writer(rt, name, &mut area, clause)?;
     }
     Ok(())
 }
@@ -76,8 +80,8 @@ fn show_free_bytes(rt: &HostRuntime) -> io::Result<()> {
         ("12 bytes, two literals", 12, &clause),
     ];
     for (name, bytes, clause) in cases {
-        let mut area = vec![in rt.alloc(); 0u8; bytes]?;
-        show_writer(rt, name, area.as_mut_slice(), clause)?;
+        let mut area = [0; 12];
+        show_writer(rt, name, &mut area[..bytes], clause)?;
     }
     Ok(())
 }

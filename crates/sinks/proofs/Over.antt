@@ -1,8 +1,8 @@
 -- Laws of writing over an area, and how long a line is.
-use Rattle.std.proofs.Common.{◌≡◌, ℕ, zero, suc, ◌+◌, ◌*◌, ◌^◌, ◌<◌, ◌≤◌, Bool, true, false, leb, List, [], ◌∷◌, ◌++◌, length, get_or, take, drop, set, decimal, sym, ap, ◌∙◌, append_assoc, add-zero, add-one, arith, length-append, length-drop, rules}
+use Rattle.std.proofs.Common.{◌≡◌, ℕ, zero, suc, ◌+◌, ◌*◌, ◌/◌, ◌^◌, ◌<◌, ◌≤◌, Bool, true, false, leb, List, [], ◌∷◌, ◌++◌, length, get_or, take, drop, set, decimal, sym, ap, ◌∙◌, append_assoc, add-zero, add-one, arith, length-append, length-drop, rules}
 use Rattle.std.proofs.lemmas.List.{take_at, drop_at, drop-drop, set_split, length-take-le, take-append-drop, take_more}
 use Rattle.std.proofs.lemmas.Bool.{and_parts, leb-true}
-use Rattle.std.proofs.lemmas.Fmt.{length-decimal-le, decimal_nonempty, first_decimal, digits_decimal, digits_value-decimal, decimal-digits_value, decimal_digit}
+use Rattle.std.proofs.lemmas.Fmt.{length-decimal-le, decimal_nonempty, first_decimal, digits_decimal, digits_value-decimal, decimal-digits_value, decimal_digit, decimal_step}
 use Rattle.std.proofs.lemmas.Str.Parse.{IsNumeralModel, numerals_by_fold}
 use Rattle.std.specs.List.{flat_map}
 use Rattle.std.specs.Str.{all_ascii_digits}
@@ -43,6 +43,15 @@ over-set s a b h = set_split s a b h ∙ ap (λ m. take a s ++ (b ∷ drop m s))
 pub over_next : (s s₁ s₂ : List ℕ) (a b : ℕ) (xs ys : List ℕ) → a ≤ length s → s₁ ≡ over s a xs → b ≡ a + length xs → s₂ ≡ over s₁ b ys → s₂ ≡ over s a (xs ++ ys)
 over_next s s₁ s₂ a b xs ys h e₁ e e₂ = e₂ ∙ ap (λ u. over u b ys) e₁ ∙ over-over s a xs h ys b e
 
+-- a write that leaves what stands before and behind it
+pub over_split : (s t xs : List ℕ) (a b e : ℕ) → b ≡ a → e ≡ a + length xs → drop b t ≡ xs ++ drop e s → take b t ≡ take b s → t ≡ over s a xs
+over_split s t xs a b e p q w f =
+    sym (take-append-drop b t)
+    ∙ ap (λ u. u ++ drop b t) f
+    ∙ ap (λ u. take b s ++ u) w
+    ∙ ap (λ m. take b s ++ (xs ++ drop m s)) q
+    ∙ ap (λ m. take m s ++ (xs ++ drop (a + length xs) s)) p
+
 -- the digits of a number are those that `decimal` gives
 own : IsNumeralModel (λ ds. all_ascii_digits ds ≡ true) (said 0)
 own = numerals_by_fold _ (search rules) said (search rules)
@@ -68,6 +77,9 @@ module _ {n a e : ℕ} {s t : List ℕ} (h : n < 2 ^ 64) (w : WroteNumeral n a s
 
   pub numeral_end : e ≡ a + length (decimal n)
   numeral_end = w.end ∙ ap (λ ds. a + length ds) (numeral_is n w.ds h w.numeral)
+
+pub decimal_longer : (n : ℕ) → 10 ≤ n → n < 2 ^ 64 → length (decimal n) ≡ length (decimal (n / 10)) + 1
+decimal_longer n h k = ap length (decimal_step n h k) ∙ length-append (decimal (n / 10)) _
 
 -- how long a line is
 pub literal_long : (l : Literal) → length (literal_text l) ≡ length (sign l.positive) + (length (decimal l.variable) + 1)

@@ -4,7 +4,7 @@ ghost use Rattle.sinks.specs.Lines.{over, line, pair_line, WroteNumeral};
 
 use crate::pen::Pen;
 use cnf::clause::Literal;
-use itoa::Buffer;
+use itoa::write_digits;
 
 // Writes a byte at `at`, and gives the index past it.
 pub fn put(area: &mut [u8], at: usize, byte: u8) -> usize
@@ -27,13 +27,25 @@ pub fn put_bytes(area: &mut [u8], at: usize, bytes: &[u8]) -> usize
     end
 }
 
-// Writes the decimal digits of a number.
+// How many decimal digits a number has.
+fn digit_count(number: u64) -> usize
+    ensures { result ≡ length (decimal number) }
+{
+    if number < 10 {
+        1
+    } else {
+        digit_count(number / 10) + 1
+    }
+}
+
+// Writes the decimal digits of a number, in their place: a buffer of their own would be filled and copied for each number.
 pub fn put_number(area: &mut [u8], at: usize, number: u64) -> usize
     requires { at + length (decimal number) ≤ length area.old }
     ensures { WroteNumeral number at area.old area.new result }
 {
-    let mut digits = Buffer::new();
-    put_bytes(area, at, digits.format(number).as_bytes())
+    let end = at + digit_count(number);
+    write_digits(number, area, end);
+    end
 }
 
 // Writes a word, two numbers with a blank between them, and a line feed.

@@ -19,13 +19,15 @@ module _ (s : ℕ) (bs : List ℕ) where
       recursion_from_All (λ b. b ≡ s → ⊥) (take i bs)
       (λ k d m e. let lt : k < i = omega (arith, m, length-take-le i bs l) in eqb-false (get_or bs k d) s (h k d lt) (sym (get_or-take i bs k d lt) ∙ e))
 
-  pub cut_at : (i : ℕ) → position (λ b. eqb b s) bs ≡ Some i → Free s (take i bs) × (bs ≡ take i bs ++ s ∷ take (length bs - (i + 1)) (drop (i + 1) bs))
-  cut_at i e =
+  -- what is cut at the first s, by the place behind it
+  pub cut_at : (i j : ℕ) → position (λ b. eqb b s) bs ≡ Some i → j ≡ i + 1 → Free s (take i bs) × (bs ≡ take i bs ++ s ∷ take (length bs - j) (drop j bs))
+  cut_at i j e n =
       let p = position-Some (λ b. eqb b s) bs i 0 e in (
         free_before i (omega (arith, p.0)) (λ k d l. (position-Some (λ b. eqb b s) bs i d e).2 k l),
         sym (take-append-drop i bs)
             ∙ ap (λ l. take i bs ++ l) (drop_more bs i 0 p.0 ∙ ap (λ b. b ∷ drop (i + 1) bs) (eqb-true (get_or bs i 0) s p.1))
-            ∙ ap (λ l. take i bs ++ s ∷ l) (sym (take_rest bs (i + 1))),
+            ∙ ap (λ k. take i bs ++ s ∷ drop k bs) (sym n)
+            ∙ ap (λ l. take i bs ++ s ∷ l) (sym (take_rest bs j)),
       )
 
   pub whole : position (λ b. eqb b s) bs ≡ None → Free s bs

@@ -6,6 +6,7 @@ ghost use Rattle.sinks.specs.Models.{judge_model, NewJudge, assigned};
 use crate::HIGHEST_VARIABLE;
 use crate::judge::Judge;
 use cnf::clause::Literal;
+use cnf::refusal::Refusal;
 use cnf::sink::{LONGEST_CLAUSE, Sink};
 
 // The cells of a new judge.
@@ -78,5 +79,11 @@ impl<'a> Sink for Judge<'a> {
         if !satisfies(self.area, clause) {
             self.fault = self.fault.or(Some(self.taken));
         }
+    }
+
+    fn take(&mut self, clause: &[Literal]) -> Result<(), Refusal> {
+        (*self).ask(clause)?;
+        self.accept(clause);
+        Ok(())
     }
 }

@@ -6,6 +6,7 @@ use crate::HIGHEST_VARIABLE;
 use crate::line::put_line;
 use crate::writer::Writer;
 use cnf::clause::Literal;
+use cnf::refusal::Refusal;
 use cnf::sink::{LONGEST_CLAUSE, Sink};
 
 // The bytes of an area that a writer uses at most.
@@ -50,5 +51,11 @@ impl<'a> Sink for Writer<'a> {
     fn accept(&mut self, clause: &[Literal]) {
         self.used = put_line(self.area, self.used, clause);
         self.taken += 1;
+    }
+
+    fn take(&mut self, clause: &[Literal]) -> Result<(), Refusal> {
+        (*self).ask(clause)?;
+        self.accept(clause);
+        Ok(())
     }
 }
