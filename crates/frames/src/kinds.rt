@@ -20,6 +20,19 @@ pub trait Kind {
     // where the record lies in the bytes
     ghost layout: { Layout Self.Record };
 
+    // The two constants as functions.
+    fn code_byte() -> u8
+        ensures { result ≡ layout.code }
+    {
+        Self::CODE
+    }
+
+    fn byte_count() -> usize
+        ensures { result ≡ layout.size }
+    {
+        Self::LENGTH
+    }
+
     // The record in the bytes of a frame, or nothing where their number is another.
     fn take_apart(bytes: &[u8]) -> Option<Self::Record>
         ensures { result ≡ apart layout bytes.now };
